@@ -1,0 +1,12 @@
+-- Counts of faults.
+use Rattle.std.specs.Prelude.{◌≡◌, ℕ, ◌+◌, ◌-◌, ◌^◌, ◌≤◌, false, List, min}
+use Rattle.std.specs.Str.{bytes_eq}
+
+-- the count has risen, or stands at the end of a u64
+abbrev pub Rose : ℕ → ℕ → Type 0
+Rose before now = min (before + 1) (2 ^ 64 - 1) ≤ now
+
+-- of the counts of all names, only that of this name may have changed, and it has not fallen
+pub record OnlyAt (name : List ℕ) (before now : List ℕ → ℕ) : Type 0 where
+  pub later : before name ≤ now name
+  pub others : (other : List ℕ) → bytes_eq name other ≡ false → now other ≡ before other

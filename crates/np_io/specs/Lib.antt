@@ -1,0 +1,12 @@
+pub mod Told
+pub mod Files
+pub mod Pushes
+pub mod Counts
+pub mod Failing
+pub mod Failures
+pub mod Held
+pub mod MemoryShelf
+pub mod MemorySink
+pub mod Streams
+pub mod FileShelf
+pub mod OutSink

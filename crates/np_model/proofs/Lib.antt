@@ -1,0 +1,10 @@
+pub mod Same
+pub mod Sums
+pub mod Expressions
+pub mod Comparing
+pub mod Runs
+pub mod Examples
+pub mod Rules
+pub mod Counter
+pub mod Numbers
+pub mod Formed

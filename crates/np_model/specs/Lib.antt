@@ -1,0 +1,9 @@
+pub mod Ground
+pub mod States
+pub mod Values
+pub mod Conditions
+pub mod Types
+pub mod Steps
+pub mod Plans
+pub mod Names
+pub mod Tasks

@@ -1,0 +1,14 @@
+use Rattle.np_lex.specs.Tokens.{pieces}
+use Rattle.np_planner.specs.Syntax.{SpellsProblem}
+use Rattle.np_planner.specs.ReadingSteps.{whole_text}
+use Rattle.np_planner.specs.ReadingForm as form
+use Rattle.np_planner.proofs.ReadingTexts.{given_spelled, refused_unspelled, problem_spelled, problem_read}
+use Rattle.np_planner.proofs.reading.read_problem.Goals as goal
+
+pub returns-clause-spelled : goal.returns-clause-spelled
+returns-clause-spelled c =
+    given_spelled (SpellsProblem c.args.bytes.now) (whole_text (form.problem (pieces c.args.bytes.now))) (problem_spelled c.args.bytes.now) c.whole_problem.result c.whole_problem.ensures
+
+pub returns-clause-not_built : goal.returns-clause-not_built
+returns-clause-not_built c =
+    refused_unspelled (SpellsProblem c.args.bytes.now) (whole_text (form.problem (pieces c.args.bytes.now))) (problem_read c.args.bytes.now) c.whole_problem.result c.whole_problem.ensures

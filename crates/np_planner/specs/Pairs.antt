@@ -1,0 +1,10 @@
+-- A pair that was read, with its counters.
+use Rattle.std.specs.Prelude.{◌≡◌, ℕ, List}
+use Rattle.np_planner.specs.declared.solve.Pair.{Pair}
+use Rattle.np_planner.specs.FirstForm.{SpellsPair}
+use Rattle.np_planner.specs.CountersOf.{counters_of}
+
+-- the bytes of two files spell this pair, and these are its counters
+pub record IsPairOf (domain_bytes problem_bytes : List ℕ) (pair : Pair) : Type 0 where
+  pub spelled : SpellsPair domain_bytes problem_bytes pair.domain pair.problem
+  pub counters : pair.counters ≡ counters_of pair.domain pair.problem

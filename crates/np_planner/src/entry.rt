@@ -1,0 +1,75 @@
+//! The top call.
+ghost use Rattle.std.specs.Prelude.{◌≡◌, map, string_bytes};
+ghost use Rattle.np_planner.specs.Words.{solve_of};
+ghost use Rattle.np_planner.specs.Answers.{shelf_of, IsAnswer};
+ghost use Rattle.np_planner.specs.Said.{sink_of};
+ghost use Rattle.np_planner.specs.Promises.{call_of, IsAnswered, IsOptimal, HasNoPlan, IsBudgetSpent, IsUsage, IsRefused, IsUnwritten, IsOutOfMemory};
+
+use crate::answer::Answer;
+use crate::say::say;
+use crate::solve::solve;
+use crate::words::solve_words;
+use np_io::{Shelf, Sink};
+use std::alloc::Global;
+
+/// The answer to the words.
+fn answer<S: Shelf>(alloc: Global, words: &[String], shelf: &mut S) -> Answer
+    ensures { IsAnswer (solve_of (map string_bytes words.now)) (shelf_of (S.files shelf.old) (S.read_faults shelf.old) (S.write_faults shelf.old)) (shelf_of (S.files shelf.new) (S.read_faults shelf.new) (S.write_faults shelf.new)) result }
+{
+    match solve_words(words) {
+        Some(command) => solve(alloc, &command, shelf),
+        None => Answer::Usage,
+    }
+}
+
+/// Does what the words say, says so, and gives the status to end with.
+pub fn planner<S: Shelf, O: Sink>(alloc: Global, words: &[String], shelf: &mut S, out: &mut O) -> u8
+    ensures answered { let call = (call_of (map string_bytes words.now)
+        (shelf_of (S.files shelf.old) (S.read_faults shelf.old) (S.write_faults shelf.old))
+        (shelf_of (S.files shelf.new) (S.read_faults shelf.new) (S.write_faults shelf.new))
+        (sink_of (O.pushed out.old) (O.faults out.old)) (sink_of (O.pushed out.new) (O.faults out.new))) in
+        IsAnswered call result }
+    ensures optimal { let call = (call_of (map string_bytes words.now)
+        (shelf_of (S.files shelf.old) (S.read_faults shelf.old) (S.write_faults shelf.old))
+        (shelf_of (S.files shelf.new) (S.read_faults shelf.new) (S.write_faults shelf.new))
+        (sink_of (O.pushed out.old) (O.faults out.old)) (sink_of (O.pushed out.new) (O.faults out.new))) in
+        result ≡ 0 → IsOptimal call }
+    ensures usage { let call = (call_of (map string_bytes words.now)
+        (shelf_of (S.files shelf.old) (S.read_faults shelf.old) (S.write_faults shelf.old))
+        (shelf_of (S.files shelf.new) (S.read_faults shelf.new) (S.write_faults shelf.new))
+        (sink_of (O.pushed out.old) (O.faults out.old)) (sink_of (O.pushed out.new) (O.faults out.new))) in
+        result ≡ 2 → IsUsage call }
+    ensures refused { let call = (call_of (map string_bytes words.now)
+        (shelf_of (S.files shelf.old) (S.read_faults shelf.old) (S.write_faults shelf.old))
+        (shelf_of (S.files shelf.new) (S.read_faults shelf.new) (S.write_faults shelf.new))
+        (sink_of (O.pushed out.old) (O.faults out.old)) (sink_of (O.pushed out.new) (O.faults out.new))) in
+        result ≡ 3 → IsRefused call 3 }
+    ensures unread { let call = (call_of (map string_bytes words.now)
+        (shelf_of (S.files shelf.old) (S.read_faults shelf.old) (S.write_faults shelf.old))
+        (shelf_of (S.files shelf.new) (S.read_faults shelf.new) (S.write_faults shelf.new))
+        (sink_of (O.pushed out.old) (O.faults out.old)) (sink_of (O.pushed out.new) (O.faults out.new))) in
+        result ≡ 4 → IsRefused call 4 }
+    ensures unwritten { let call = (call_of (map string_bytes words.now)
+        (shelf_of (S.files shelf.old) (S.read_faults shelf.old) (S.write_faults shelf.old))
+        (shelf_of (S.files shelf.new) (S.read_faults shelf.new) (S.write_faults shelf.new))
+        (sink_of (O.pushed out.old) (O.faults out.old)) (sink_of (O.pushed out.new) (O.faults out.new))) in
+        result ≡ 5 → IsUnwritten call }
+    ensures memory { let call = (call_of (map string_bytes words.now)
+        (shelf_of (S.files shelf.old) (S.read_faults shelf.old) (S.write_faults shelf.old))
+        (shelf_of (S.files shelf.new) (S.read_faults shelf.new) (S.write_faults shelf.new))
+        (sink_of (O.pushed out.old) (O.faults out.old)) (sink_of (O.pushed out.new) (O.faults out.new))) in
+        result ≡ 7 → IsOutOfMemory call }
+    ensures unsolvable { let call = (call_of (map string_bytes words.now)
+        (shelf_of (S.files shelf.old) (S.read_faults shelf.old) (S.write_faults shelf.old))
+        (shelf_of (S.files shelf.new) (S.read_faults shelf.new) (S.write_faults shelf.new))
+        (sink_of (O.pushed out.old) (O.faults out.old)) (sink_of (O.pushed out.new) (O.faults out.new))) in
+        result ≡ 10 → HasNoPlan call }
+    ensures spent { let call = (call_of (map string_bytes words.now)
+        (shelf_of (S.files shelf.old) (S.read_faults shelf.old) (S.write_faults shelf.old))
+        (shelf_of (S.files shelf.new) (S.read_faults shelf.new) (S.write_faults shelf.new))
+        (sink_of (O.pushed out.old) (O.faults out.old)) (sink_of (O.pushed out.new) (O.faults out.new))) in
+        result ≡ 11 → IsBudgetSpent call }
+{
+    let answer = answer(alloc, words, shelf);
+    say(alloc, &answer, out)
+}

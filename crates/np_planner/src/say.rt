@@ -1,0 +1,27 @@
+//! What the planner says.
+ghost use Rattle.np_planner.specs.Said.{sink_of, IsGiven, IsSaid};
+
+use crate::answer::Answer;
+use np_io::{Give, Sink};
+use std::alloc::Global;
+
+/// Pushes an answer, and gives the status to end with.
+pub fn say<O: Sink>(alloc: Global, answer: &Answer, out: &mut O) -> u8
+    ensures { IsSaid answer.now (sink_of (O.pushed out.old) (O.faults out.old)) (sink_of (O.pushed out.new) (O.faults out.new)) result }
+{
+    match answer.text(alloc) {
+        Ok(text) => push(text.as_bytes(), answer.status(), out),
+        Err(_) => push(b"Out of memory\n", 7, out),
+    }
+}
+
+/// Pushes a text that goes with a status, and gives the status to end with.
+fn push<O: Sink>(text: &[u8], status: u8, out: &mut O) -> u8
+    ensures { IsGiven text.now status (sink_of (O.pushed out.old) (O.faults out.old)) (sink_of (O.pushed out.new) (O.faults out.new)) result }
+{
+    match out.push(text) {
+        Ok(()) => status,
+        Err(Give::Failed) => 5,
+        Err(Give::Memory) => 7,
+    }
+}

@@ -1,0 +1,96 @@
+//! The words of the commands.
+ghost use Rattle.std.specs.Prelude.{◌≡◌, ◌≤◌, ◌^◌, map, string_bytes, IfSome};
+ghost use Rattle.std.specs.Option.{option_map};
+ghost use Rattle.np_planner.specs.Words.{solve_of, budget_of, nodes_of, is_apart};
+ghost use Rattle.np_planner.specs.Told.{told};
+
+/// How many states `solve` expands where its words name no number.
+const DEFAULT_NODES: u32 = 100_000;
+
+/// The most states that `solve` expands.
+const MOST_NODES: u32 = 1 << 24;
+
+/// What `solve` is told: four names of files, and how many states it may expand.
+#[derive(Clone, Copy, Debug)]
+pub struct Solve<'a> {
+    pub domain: &'a str,
+    pub problem: &'a str,
+    pub plan: &'a str,
+    pub certificate: &'a str,
+    pub nodes: u32,
+}
+
+/// What the words tell `solve`; none where they aren't `solve DOMAIN PROBLEM PLAN CERT [NODES]`.
+pub fn solve_words(words: &[String]) -> Option<Solve<'_>>
+    ensures told { option_map told result ≡ solve_of (map string_bytes words.now) }
+    ensures some_nodes { IfSome result (λ solve. 1 ≤ solve.nodes) }
+    ensures few_nodes { IfSome result (λ solve. solve.nodes ≤ 2 ^ 24) }
+{
+    let [command, domain, problem, plan, certificate, rest @ ..] = words else {
+        return None;
+    };
+    if command.as_str() != "solve"
+        || !are_apart(
+            domain.as_str(),
+            problem.as_str(),
+            plan.as_str(),
+            certificate.as_str(),
+        )
+    {
+        return None;
+    }
+    let nodes = budget(rest)?;
+    Some(Solve {
+        domain: domain.as_str(),
+        problem: problem.as_str(),
+        plan: plan.as_str(),
+        certificate: certificate.as_str(),
+        nodes,
+    })
+}
+
+/// Whether the names that are written differ from each other and from those that are read.
+fn are_apart(domain: &str, problem: &str, plan: &str, certificate: &str) -> bool
+    ensures { result ≡ is_apart domain.now problem.now plan.now certificate.now }
+{
+    plan != domain
+        && plan != problem
+        && certificate != domain
+        && certificate != problem
+        && plan != certificate
+}
+
+/// The budget that the words behind the names give.
+fn budget(words: &[String]) -> Option<u32>
+    ensures value { result ≡ budget_of (map string_bytes words.now) }
+    ensures some_nodes { IfSome result (λ nodes. 1 ≤ nodes) }
+    ensures few_nodes { IfSome result (λ nodes. nodes ≤ 2 ^ 24) }
+{
+    match words {
+        [] => Some(DEFAULT_NODES),
+        [word] => nodes(word.as_bytes()),
+        _ => None,
+    }
+}
+
+/// A number from 1 to 16777216 in decimal digits without a leading zero.
+fn nodes(word: &[u8]) -> Option<u32>
+    ensures value { result ≡ nodes_of word.now }
+    ensures some_nodes { IfSome result (λ nodes. 1 ≤ nodes) }
+    ensures few_nodes { IfSome result (λ nodes. nodes ≤ 2 ^ 24) }
+{
+    if word.first().is_none_or(|first| *first <= b'0') {
+        return None;
+    }
+    let mut nodes = 0u32;
+    for byte in word {
+        if !byte.is_ascii_digit() {
+            return None;
+        }
+        nodes = nodes * 10 + u32::from(*byte - b'0');
+        if nodes > MOST_NODES {
+            return None;
+        }
+    }
+    Some(nodes)
+}

@@ -1,0 +1,11 @@
+//! What the commands answer, tried as a whole over a shelf and a sink in memory. There is nothing here but tests.
+#![tactic(auto)]
+
+#[cfg(test)]
+mod faults;
+#[cfg(test)]
+mod forms;
+#[cfg(test)]
+mod solve;
+#[cfg(test)]
+mod trial;
