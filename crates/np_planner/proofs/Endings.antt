@@ -1,7 +1,7 @@
 -- From what the calls of `solve` say to what its answer says.
-use Rattle.std.proofs.Common.{◌≡◌, ℕ, List, refl, sym, ap, ◌∙◌, subst}
-use Rattle.np_io.specs.Files.{Files, Changes, HasPut, HasPutPrefix, IsHeld}
-use Rattle.np_io.specs.Counts.{Rose}
+use Rattle.std.proofs.Common.{◌≡◌, ℕ, List, refl, sym, ◌∙◌, subst}
+use Rattle.np_io.specs.Files.{Changes, HasPut, HasPutPrefix}
+use Rattle.np_io.specs.Counts.{Rose, OnlyAt}
 use Rattle.np_planner.specs.declared.answer.File.TheVariants as file
 use Rattle.np_planner.specs.declared.answer.Answer.{Answer}
 use Rattle.np_planner.specs.declared.answer.Answer.TheVariants.{Usage, CannotRead, TooLong, NotBuilt, Optimal, Unsolvable, Spent, CannotWrite, OutOfMemory}
@@ -9,23 +9,9 @@ use Rattle.np_planner.specs.declared.solve.Outcome.{Outcome}
 use Rattle.np_planner.specs.declared.solve.Outcome.TheVariants as outcome
 use Rattle.np_planner.specs.Words.{Solve}
 use Rattle.np_planner.specs.Outcomes.{IsOutcome, Concludes}
-use Rattle.np_planner.specs.Answers.{Shelf, IsRead, AreRead, HavePair, IsCheapest, IsUnwritten, WasSolved, WriteFailed, WasUnsolvable, WasSpent, IsRight, IsPut}
+use Rattle.np_planner.specs.Answers.{Shelf, AreRead, HavePair, IsCheapest, IsUnwritten, WasSolved, WriteFailed, WasUnsolvable, WasSpent, IsRight, IsPut}
 
--- two calls that write nothing write nothing
-pub unwritten_twice : (old mid new : Shelf) → IsUnwritten old mid → IsUnwritten mid new → IsUnwritten old new
-unwritten_twice old mid new one two = record { files = two.files ∙ one.files; writes = two.writes ∙ one.writes }
-
--- what is read after a call that writes nothing could be read before it
-pub read_before : (old mid : Shelf) (name bytes : List ℕ) → IsUnwritten old mid → IsRead mid name bytes → IsRead old name bytes
-read_before old mid name bytes unwritten read = record { held = subst (λ f. IsHeld f name bytes) unwritten.files read.held; within = read.within }
-
-module _ (command : Solve) (old mid after : Shelf) (domain problem : List ℕ) (first : IsUnwritten old mid) (domain_read : IsRead old command.domain domain) (second : IsUnwritten mid after) (problem_read : IsRead mid command.problem problem) where
-  both_read : AreRead command old domain problem
-  both_read = record { domain_read = domain_read; problem_read = read_before old mid command.problem problem first problem_read }
-
-  unwritten : IsUnwritten old after
-  unwritten = unwritten_twice old mid after first second
-
+module _ (command : Solve) (old after : Shelf) (domain problem : List ℕ) (both_read : AreRead command old domain problem) (unwritten : IsUnwritten old after) where
   abbrev pair_of : (o : Outcome) → IsOutcome domain problem command.nodes o → HavePair command old
   pair_of o is = record { domain_bytes = domain; problem_bytes = problem; read = both_read; domain = is.domain; problem = is.problem; spelled = is.spelled }
 
@@ -38,22 +24,27 @@ module _ (command : Solve) (old mid after : Shelf) (domain problem : List ℕ) (
   was_spent bound is = record { pair = pair_of (outcome.Spent bound) is; budget = refl; spent = is.says; unwritten = unwritten }
 
   module _ (text : Outcome) (plan : List ℕ) (cost : ℕ) (is : IsOutcome domain problem command.nodes text) (cheapest : IsCheapest is.domain is.problem plan cost) (new : Shelf) where
-    solved : (c : ℕ) → c ≡ cost → Changes after.files new.files (HasPut command.plan plan) → WasSolved command c old new
-    solved c same put = record {
+    writes : OnlyAt command.plan after.write_faults new.write_faults → OnlyAt command.plan old.write_faults new.write_faults
+    writes only = subst (λ counts. OnlyAt command.plan counts new.write_faults) unwritten.writes only
+
+    solved : (c : ℕ) → c ≡ cost → Changes after.files new.files (HasPut command.plan plan) → OnlyAt command.plan after.write_faults new.write_faults → WasSolved command c old new
+    solved c same put only = record {
       pair = pair_of text is;
       plan = plan;
       cheapest = subst (IsCheapest is.domain is.problem plan) (sym same) cheapest;
       put = subst (λ f. Changes f new.files (HasPut command.plan plan)) unwritten.files put;
+      writes = writes only;
     }
 
-    failed : Changes after.files new.files (HasPutPrefix command.plan plan) → Rose (after.write_faults command.plan) (new.write_faults command.plan) → WriteFailed command old new
-    failed prefix rose = record {
+    failed : Changes after.files new.files (HasPutPrefix command.plan plan) → Rose (after.write_faults command.plan) (new.write_faults command.plan) → OnlyAt command.plan after.write_faults new.write_faults → WriteFailed command old new
+    failed prefix rose only = record {
       pair = pair_of text is;
       plan = plan;
       cost = cost;
       cheapest = cheapest;
       prefix = subst (λ f. Changes f new.files (HasPutPrefix command.plan plan)) unwritten.files prefix;
       rose = subst (λ counts. Rose (counts command.plan) (new.write_faults command.plan)) unwritten.writes rose;
+      writes = writes only;
     }
 
     -- after a put of the plan that the search found
@@ -62,13 +53,13 @@ module _ (command : Solve) (old mid after : Shelf) (domain problem : List ℕ) (
     put_right (CannotRead f) put = absurd put
     put_right (TooLong f) put = absurd put
     put_right NotBuilt put = absurd put
-    put_right (Optimal c) put = solved c put.0 put.1
+    put_right (Optimal c) put = solved c put.0 put.1 put.2
     put_right Unsolvable put = absurd put
     put_right (Spent nodes bound) put = absurd put
     put_right (CannotWrite file.Domain) put = absurd put
     put_right (CannotWrite file.Problem) put = absurd put
-    put_right (CannotWrite file.Plan) put = failed put.0 put.1
-    put_right OutOfMemory put = put ∙ unwritten.files
+    put_right (CannotWrite file.Plan) put = failed put.0 put.1 put.2
+    put_right OutOfMemory put = record { files = put.files ∙ unwritten.files; writes = put.writes ∙ unwritten.writes }
 
   -- after the work on both files
   pub concluded : (o : Outcome) → IsOutcome domain problem command.nodes o → (new : Shelf) (answer : Answer) → Concludes command o after new answer → IsRight command old new answer

@@ -1,18 +1,18 @@
 -- What the search over counters finds, said of the task.
-use Rattle.std.proofs.Common.{◌≡◌, ℕ, suc, ◌≤◌, ◌<◌, List, [], ◌∷◌, length, map, Option, Some, None, option_map, pos, get_or, slice_get, refl, sym, ap, ◌∙◌, subst, arith}
-use Rattle.std.specs.Prelude.{All, Contains, slice_index_or}
+use Rattle.std.proofs.Common.{◌≡◌, ℕ, ◌<◌, List, [], ◌∷◌, length, map, Some, option_map, pos, get_or, slice_get, refl, sym, ap, ◌∙◌, subst}
+use Rattle.std.specs.Prelude.{All, Contains}
 use Rattle.std.proofs.lemmas.List.{length-map}
-use Rattle.std.proofs.lemmas.Option.{same_Some, slice_get-map, slice_get_within}
+use Rattle.std.proofs.lemmas.Option.{slice_get-map, slice_get_within}
 use Rattle.std.proofs.lemmas.List.Elements.{All-map, All-nil, All-cons}
 use Rattle.std.proofs.Math.ListN.{get_or-map}
 use Rattle.np_frac.specs.Fractions.{whole}
 use Rattle.np_model.specs.States.{State}
-use Rattle.np_model.specs.Plans.{start_of, run_from, cost_from, is_goal, IsPlan, NoPlanBelow}
+use Rattle.np_model.specs.Plans.{run_from, cost_from, IsPlan, NoPlanBelow}
 use Rattle.np_planner.specs.declared.counters.Counters.{Counters}
 use Rattle.np_planner.specs.declared.syntax.Domain.{Domain}
 use Rattle.np_planner.specs.declared.syntax.Problem.{Problem}
 use Rattle.np_planner.specs.FirstForm.{IsFirstForm}
-use Rattle.np_planner.specs.Counters.{Values, moved, next, run, IsWithin as IsWithinMoves, IsSpent as IsSpentOn, AreDistinct as AreDistinctValues, is_goal as is_counters_goal}
+use Rattle.np_planner.specs.Counters.{Values, moved, next, run, IsWithin as IsWithinMoves, IsSpent as IsSpentOn, AreDistinct as AreDistinctValues}
 use Rattle.np_planner.specs.TaskOf.{task_of, step_of}
 use Rattle.np_planner.specs.CountersOf.{counters_of}
 use Rattle.np_planner.specs.StateOf.{state_of}

@@ -1,15 +1,12 @@
 -- From a right answer that is said to what each status promises.
-use Rattle.std.proofs.Common.{◌≡◌, ℕ, ◌⊎◌, inl, inr, List, Option, Some, None, refl, sym, ap, ◌∙◌, subst, arith}
-use Rattle.np_io.specs.Told.{Changes}
-use Rattle.np_io.specs.Pushes.{HasPushed}
-use Rattle.np_planner.specs.declared.answer.File.{File}
+use Rattle.std.proofs.Common.{◌≡◌, ℕ, ◌⊎◌, inl, inr, Option, Some, None, refl, sym, ap, ◌∙◌, subst, arith}
 use Rattle.np_planner.specs.declared.answer.Answer.{Answer}
 use Rattle.np_planner.specs.declared.answer.Answer.TheVariants.{Usage, CannotRead, TooLong, NotBuilt, Optimal, Unsolvable, Spent, CannotWrite, OutOfMemory}
 use Rattle.np_planner.specs.Words.{Solve, solve_of}
 use Rattle.np_planner.specs.Answer.{text_of, status_of}
-use Rattle.np_planner.specs.Answers.{Shelf, IsAnswer, IsRight, WasSpent}
-use Rattle.np_planner.specs.Said.{IsSaid, IsGiven, IsPushed, IsCut, IsUnsaid}
-use Rattle.np_planner.specs.Promises.{Call, Says, IsAnswered, IsOptimal, HasNoPlan, IsBudgetSpent, IsUsage, IsRefused, IsPushCut, IsUnwritten, IsOutOfMemory, Promise}
+use Rattle.np_planner.specs.Answers.{IsAnswer, IsRight, ReadsOnly, WasSpent}
+use Rattle.np_planner.specs.Said.{IsSaid, IsCut, IsUnsaid}
+use Rattle.np_planner.specs.Promises.{Call, Says, IsAnswered, IsOptimal, HasNoPlan, IsBudgetSpent, IsUsage, IsRefused, IsUnwritten, IsOutOfMemory, Promise}
 
 module _ (call : Call) (status : ℕ) where
   is_0 : status ≡ 0 → IsOptimal call → Promise call status
@@ -37,32 +34,33 @@ module _ (call : Call) (status : ℕ) where
   is_11 e p = inr (inr (inr (inr (inr (inr (inr (e, p)))))))
 
   module _ (command : Solve) (words_are : solve_of call.words ≡ Some command) where
-    refused : (answer : Answer) (s : ℕ) → status_of answer ≡ s → Says call answer → IsRight command call.before call.after answer → IsRefused call s
-    refused answer s own says right = record { command = command; words_are = words_are; answer = answer; own_status = own; says = says; right = right }
+    refused : (answer : Answer) (s : ℕ) → status_of answer ≡ s → Says call answer → IsRight command call.before call.after answer → ReadsOnly command call.before.read_faults call.after.read_faults → IsRefused call s
+    refused answer s own says right reads = record { command = command; words_are = words_are; answer = answer; own_status = own; says = says; right = right; reads = reads }
 
     -- a right answer to the words of `solve` was said whole
-    solved : (answer : Answer) → status ≡ status_of answer → Says call answer → IsRight command call.before call.after answer → Promise call status
-    solved Usage e says right = absurd right
-    solved (CannotRead f) e says right = is_4 e (refused (CannotRead f) 4 refl says right)
-    solved (TooLong f) e says right = is_3 e (refused (TooLong f) 3 refl says right)
-    solved NotBuilt e says right = is_3 e (refused NotBuilt 3 refl says right)
-    solved (Optimal cost) e says right = is_0 e (record { command = command; words_are = words_are; cost = cost; says = says; solved = right })
-    solved Unsolvable e says right = is_10 e (record { command = command; words_are = words_are; says = says; unsolvable = right })
-    solved (Spent nodes bound) e says right = is_11 e (record {
+    solved : (answer : Answer) → status ≡ status_of answer → Says call answer → IsRight command call.before call.after answer → ReadsOnly command call.before.read_faults call.after.read_faults → Promise call status
+    solved Usage e says right reads = absurd right
+    solved (CannotRead f) e says right reads = is_4 e (refused (CannotRead f) 4 refl says right reads)
+    solved (TooLong f) e says right reads = is_3 e (refused (TooLong f) 3 refl says right reads)
+    solved NotBuilt e says right reads = is_3 e (refused NotBuilt 3 refl says right reads)
+    solved (Optimal cost) e says right reads = is_0 e (record { command = command; words_are = words_are; cost = cost; says = says; solved = right; reads = reads })
+    solved Unsolvable e says right reads = is_10 e (record { command = command; words_are = words_are; says = says; unsolvable = right; reads = reads })
+    solved (Spent nodes bound) e says right reads = is_11 e (record {
       command = command;
       words_are = words_are;
       bound = bound;
       says = subst (λ (n : ℕ). Says call (Spent n bound)) right.budget says;
       spent = subst (λ (n : ℕ). WasSpent command n bound call.before call.after) right.budget right;
+      reads = reads;
     })
-    solved (CannotWrite f) e says right = is_5 e (inl (refused (CannotWrite f) 5 refl says right))
-    solved OutOfMemory e says right = is_7 e (record { answer = OutOfMemory; right = subst (λ (o : Option Solve). IsAnswer o call.before call.after OutOfMemory) (sym words_are) right; says = inr says })
+    solved (CannotWrite f) e says right reads = is_5 e (inl (refused (CannotWrite f) 5 refl says right reads))
+    solved OutOfMemory e says right reads = is_7 e (record { answer = OutOfMemory; right = subst (λ (o : Option Solve). IsAnswer o call.before call.after OutOfMemory) (sym words_are) (right, reads); says = inr says })
 
   -- a right answer was said whole
   whole : (answer : Answer) → status ≡ status_of answer → Says call answer → (o : Option Solve) → solve_of call.words ≡ o → IsAnswer o call.before call.after answer → Promise call status
   whole answer e says None words_are right =
       is_2 (e ∙ ap status_of right.0) (record { no_command = words_are; says = subst (λ (a : Answer). Says call a) right.0 says; untouched = right.1 })
-  whole answer e says (Some command) words_are right = solved command words_are answer e says right
+  whole answer e says (Some command) words_are right = solved command words_are answer e says right.0 right.1
 
   module _ (answer : Answer) (right : IsAnswer (solve_of call.words) call.before call.after answer) where
     cut : (said : Answer) → (said ≡ answer) ⊎ (said ≡ OutOfMemory) → IsCut (text_of said) call.out_before call.out_after status → Promise call status

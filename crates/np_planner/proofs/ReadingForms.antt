@@ -1,9 +1,8 @@
 -- Each part of the first form: what is read is spelled so, and what is spelled so is read.
-use Rattle.std.proofs.Common.{◌≡◌, ℕ, List, [], ◌∷◌, refl, codes}
+use Rattle.std.proofs.Common.{ℕ, List, ◌∷◌, refl, codes}
 use Rattle.std.specs.List.{All}
 use Rattle.np_lex.specs.Tokens.{Lexeme}
 use Rattle.np_planner.specs.declared.syntax.Test.{Test}
-use Rattle.np_planner.specs.declared.syntax.Whole.{Whole}
 use Rattle.np_planner.specs.declared.syntax.Effect.{Effect}
 use Rattle.np_planner.specs.declared.syntax.Action.{Action}
 use Rattle.np_planner.specs.declared.syntax.Domain.{Domain}
@@ -12,9 +11,9 @@ use Rattle.np_planner.specs.declared.syntax.Problem.{Problem}
 use Rattle.np_planner.specs.Syntax.{Printed, all, IsName, IsWhole, IsTest, IsEffect, IsAction, IsDomain, IsValue, IsProblem}
 use Rattle.np_planner.specs.Syntax as printed
 use Rattle.np_planner.specs.ReadingSteps.{left, right}
-use Rattle.np_planner.specs.ReadingForm.{named, keyword, operator, term, test, tests, effect, effects, no_parameters, action, titled, functions, domain, value, domain_name, values, goal, problem}
+use Rattle.np_planner.specs.ReadingForm.{named, keyword, operator, term, lower_limit, tests, effect, effects, no_parameters, action, titled, functions, domain, value, domain_name, values, goal, problem}
 use Rattle.np_planner.proofs.ReadingLaws.{Reads, IsAny, reads_expect, reads_open, reads_both, reads_made, reads_behind, reads_before, reads_row, not_right}
-use Rattle.np_planner.proofs.ReadingWords.{reads_name, reads_whole, reads_direction, IsEither}
+use Rattle.np_planner.proofs.ReadingWords.{reads_name, reads_whole, reads_direction}
 
 -- ---- as they are printed, in front of what follows
 
@@ -48,8 +47,8 @@ pub reads_term : Reads IsName printed.term term
 unfolding term
 reads_term = reads_behind (reads_expect left) (reads_before right reads_name)
 
-pub reads_test : Reads IsTest printed.test test
-unfolding test
+pub reads_test : Reads IsTest printed.test lower_limit
+unfolding lower_limit
 reads_test =
     reads_behind (reads_open (operator (codes ">="))) (reads_before right
     (reads_made IsTest (λ x. record { function = x.0; least = x.1 }) (λ (t : Test). (t.function, t.least)) (λ _. refl) (λ _. refl)

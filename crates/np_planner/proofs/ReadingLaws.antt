@@ -1,5 +1,5 @@
 -- What is read is spelled so, and what is spelled so is read.
-use Rattle.std.proofs.Common.{map, ◌≡◌, ℕ, zero, suc, ◌≤◌, ◌<◌, Bool, true, false, cond, ◌&&◌, List, [], ◌∷◌, ◌++◌, length, Option, Some, None, refl, sym, ap, subst, ◌∙◌, arith, append_assoc}
+use Rattle.std.proofs.Common.{map, ◌≡◌, ℕ, zero, suc, ◌≤◌, ◌<◌, Bool, true, false, cond, ◌&&◌, List, [], ◌∷◌, ◌++◌, length, Some, None, refl, sym, ap, subst, ◌∙◌, arith, append_assoc}
 use Rattle.std.specs.List.{All}
 use Rattle.std.specs.Str.{bytes_eq}
 use Rattle.std.proofs.lemmas.List.{append-nil}
@@ -12,7 +12,7 @@ use Rattle.np_planner.specs.declared.reading.refusal.Refusal.{Refusal}
 use Rattle.np_planner.specs.declared.reading.refusal.Refusal.TheVariants.{NotBuilt, Memory}
 use Rattle.np_planner.specs.ReadingAnswers.{Refuses}
 use Rattle.np_planner.specs.Syntax.{Printed, all}
-use Rattle.np_planner.specs.ReadingSteps.{Outcome, Reader, and_then, same_kind, same_lexeme, next, wanted, expect, left, right, open_with, behind, before, both, made, closed_or, turns, row}
+use Rattle.np_planner.specs.ReadingSteps.{Outcome, Reader, and_then, same_kind, same_lexeme, expect, left, right, open_with, behind, before, both, made, closed_or, turns, row}
 
 -- what holds of a value and the pieces behind it, where there is one
 abbrev pub Gets : {A : Type 0} → (A → List Piece → Type 0) → Outcome A → Type 0

@@ -8,11 +8,11 @@ use Rattle.np_planner.specs.declared.syntax.Problem.{Problem}
 use Rattle.np_planner.specs.declared.reading.refusal.Refusal.{Refusal}
 use Rattle.np_planner.specs.declared.reading.refusal.Refusal.TheVariants.{NotBuilt, Memory}
 use Rattle.np_planner.specs.ReadingAnswers.{Gives}
-use Rattle.np_planner.specs.Syntax.{Printed, SpellsDomain, SpellsProblem, IsDomain, IsProblem}
+use Rattle.np_planner.specs.Syntax.{Printed, SpellsDomain, SpellsProblem}
 use Rattle.np_planner.specs.ReadingSteps.{Outcome, Reader, alone, whole_text}
 use Rattle.np_planner.specs.ReadingForm as form
-use Rattle.np_planner.proofs.ReadingLaws.{Gets, Took, Reads, gets}
-use Rattle.np_planner.proofs.ReadingForms.{domain_then, problem_then, reads_domain, reads_problem}
+use Rattle.np_planner.proofs.ReadingLaws.{Took, Reads, gets}
+use Rattle.np_planner.proofs.ReadingForms.{reads_domain, reads_problem}
 
 -- ---- pieces and lexemes
 

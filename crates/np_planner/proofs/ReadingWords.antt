@@ -1,5 +1,5 @@
 -- Names, whole numbers and the direction of an effect: what is read is spelled so, and what is spelled so is read.
-use Rattle.std.proofs.Common.{map, ◌≡◌, ℕ, zero, suc, ◌≤◌, ◌<◌, Bool, true, false, cond, ◌&&◌, not, List, [], ◌∷◌, length, Option, Some, None, refl, sym, ap, subst, ◌∙◌, arith, eqb, leb, codes, Decides}
+use Rattle.std.proofs.Common.{map, ◌≡◌, ℕ, ◌≤◌, Bool, true, false, cond, ◌&&◌, not, List, [], ◌∷◌, length, Option, Some, None, refl, sym, ap, ◌∙◌, arith, eqb, leb, codes, Decides}
 use Rattle.std.specs.List.{All, Contains, list_any, list_all}
 use Rattle.std.specs.Char.{is_ascii_digit, IsAsciiDigit, to_ascii_lowercase}
 use Rattle.std.specs.Str.{bytes_eq}
@@ -12,9 +12,9 @@ use Rattle.np_lex.specs.declared.token.Kind.TheVariants.{Name, Number}
 use Rattle.np_planner.specs.declared.syntax.Whole.{Whole}
 use Rattle.np_planner.specs.Syntax.{reserved, IsName, IsWhole, text_of_whole}
 use Rattle.np_planner.specs.Syntax as printed
-use Rattle.np_planner.specs.ReadingSteps.{Outcome, Reader, and_then, same_kind, next, expect}
-use Rattle.np_planner.specs.ReadingForm.{named, is_reserved, name_of, name, whole_with, signed_whole, in_front, whole_of, whole, increase_or, direction}
-use Rattle.np_planner.proofs.ReadingLaws.{Gets, Took, Reads, IsAny, then_at, same_kind_true, same_kind-refl, both_true, reads_expect}
+use Rattle.np_planner.specs.ReadingSteps.{Outcome, and_then, same_kind, expect}
+use Rattle.np_planner.specs.ReadingForm.{named, is_reserved, name, whole_with, signed_whole, in_front, whole, increase_or, direction}
+use Rattle.np_planner.proofs.ReadingLaws.{Gets, Took, Reads, IsAny, then_at, same_kind_true, both_true, reads_expect}
 
 -- ---- names
 

@@ -1,6 +1,5 @@
 -- The texts and the statuses of the answers.
-use Rattle.std.specs.Prelude.{ℕ, List, [], ◌∷◌, ◌++◌, codes, decimal, map}
-use Rattle.std.specs.List.{flat_map}
+use Rattle.std.specs.Prelude.{ℕ, List, ◌++◌, codes, decimal}
 use Rattle.np_planner.specs.declared.answer.File.{File}
 use Rattle.np_planner.specs.declared.answer.File.TheVariants.{Domain, Problem, Plan}
 use Rattle.np_planner.specs.declared.answer.Answer.{Answer}

@@ -1,10 +1,10 @@
 -- Which answers of `solve` are right.
-use Rattle.std.specs.Prelude.{◌≡◌, ℕ, ◌^◌, ◌≤◌, ◌<◌, pos, Option, Some, None, List, [], ◌∷◌, length, map, All, Contains, IsTrue, IsErrOf, slice_get, false}
+use Rattle.std.specs.Prelude.{◌≡◌, ℕ, ◌^◌, ◌≤◌, pos, Option, Some, None, List, length, map, All, Contains, slice_get, false}
+use Rattle.std.specs.Str.{bytes_eq}
 use Rattle.np_io.specs.Files.{Files, Changes, HasPut, HasPutPrefix, IsHeld, IsLonger}
 use Rattle.np_io.specs.Counts.{Rose, OnlyAt}
 use Rattle.np_frac.specs.Fractions.{Fraction, whole}
 use Rattle.np_model.specs.declared.task.Task.{Task}
-use Rattle.np_model.specs.declared.task.Step.{Step}
 use Rattle.np_model.specs.States.{State}
 use Rattle.np_model.specs.Plans.{IsPlan, IsUnsolvable, NoPlanBelow, Reaches, IsAtMost, is_goal}
 use Rattle.np_planner.specs.declared.answer.File.{File}
@@ -113,6 +113,7 @@ pub record WasSolved (command : Solve) (cost : ℕ) (old new : Shelf) : Type 0 w
   pub plan : List ℕ
   pub cheapest : IsCheapest pair.domain pair.problem plan cost
   pub put : Changes old.files new.files (HasPut command.plan plan)
+  pub writes : OnlyAt command.plan old.write_faults new.write_faults
 
 -- the pair has a cheapest plan, but the write of its lines under PLAN failed, and a prefix of them may stand there
 pub record WriteFailed (command : Solve) (old new : Shelf) : Type 0 where
@@ -122,6 +123,7 @@ pub record WriteFailed (command : Solve) (old new : Shelf) : Type 0 where
   pub cheapest : IsCheapest pair.domain pair.problem plan cost
   pub prefix : Changes old.files new.files (HasPutPrefix command.plan plan)
   pub rose : Rose (old.write_faults command.plan) (new.write_faults command.plan)
+  pub writes : OnlyAt command.plan old.write_faults new.write_faults
 
 -- the pair has no plan
 pub record WasUnsolvable (command : Solve) (old new : Shelf) : Type 0 where
@@ -152,16 +154,17 @@ IsRight command old new (Spent nodes bound) = WasSpent command nodes bound old n
 IsRight command old new (CannotWrite Domain) = ⊥
 IsRight command old new (CannotWrite Problem) = ⊥
 IsRight command old new (CannotWrite Plan) = WriteFailed command old new
-IsRight command old new OutOfMemory = new.files ≡ old.files
+IsRight command old new OutOfMemory = IsUnwritten old new
+
+-- no count of reads fell, and only those of the domain and the problem may have risen
+pub record ReadsOnly (command : Solve) (before now : List ℕ → ℕ) : Type 0 where
+  pub later : (name : List ℕ) → before name ≤ now name
+  pub others : (name : List ℕ) → bytes_eq command.domain name ≡ false → bytes_eq command.problem name ≡ false → now name ≡ before name
 
 -- whether an answer to these words is right: usage exactly where they fit no command, and then nothing was done
 abbrev pub IsAnswer : Option Solve → Shelf → Shelf → Answer → Type 0
 IsAnswer None old new answer = (answer ≡ Usage) × (new ≡ old)
-IsAnswer (Some command) old new answer = IsRight command old new answer
-
--- no count of reads falls
-abbrev pub ReadsLater : (List ℕ → ℕ) → (List ℕ → ℕ) → Type 0
-ReadsLater before now = (name : List ℕ) → before name ≤ now name
+IsAnswer (Some command) old new answer = IsRight command old new answer × ReadsOnly command old.read_faults new.read_faults
 
 -- the answer for a file whose bytes can't be had
 abbrev pub IsUnread : File → List ℕ → Shelf → Shelf → Answer → Type 0
@@ -177,9 +180,9 @@ IsUnread file name old new (CannotWrite f) = ⊥
 
 -- the answer to a put of a plan of this cost
 abbrev pub IsPut : List ℕ → List ℕ → ℕ → Shelf → Shelf → Answer → Type 0
-IsPut name plan cost old new (Optimal c) = (c ≡ cost) × Changes old.files new.files (HasPut name plan)
-IsPut name plan cost old new (CannotWrite Plan) = Changes old.files new.files (HasPutPrefix name plan) × Rose (old.write_faults name) (new.write_faults name)
-IsPut name plan cost old new OutOfMemory = new.files ≡ old.files
+IsPut name plan cost old new (Optimal c) = (c ≡ cost) × Changes old.files new.files (HasPut name plan) × OnlyAt name old.write_faults new.write_faults
+IsPut name plan cost old new (CannotWrite Plan) = Changes old.files new.files (HasPutPrefix name plan) × Rose (old.write_faults name) (new.write_faults name) × OnlyAt name old.write_faults new.write_faults
+IsPut name plan cost old new OutOfMemory = IsUnwritten old new
 IsPut name plan cost old new (CannotWrite Domain) = ⊥
 IsPut name plan cost old new (CannotWrite Problem) = ⊥
 IsPut name plan cost old new (CannotRead f) = ⊥

@@ -1,5 +1,5 @@
 -- Counters: what moves do to them, and which lists of moves lead to the goal.
-use Rattle.std.specs.Prelude.{◌≡◌, ◌≢◌, ℕ, ◌+◌, ◌*◌, ◌^◌, ◌≤◌, ◌<◌, Bool, true, false, ℤ, pos, ◌+ℤ◌, int_le, unsigned_abs, List, [], ◌∷◌, length, map, fold, All, Contains, Option, Some, None, slice_get, slice_index_or, slice_set, if◌then◌else◌}
+use Rattle.std.specs.Prelude.{◌≡◌, ℕ, ◌^◌, ◌≤◌, ◌<◌, Bool, true, false, ℤ, pos, ◌+ℤ◌, int_le, unsigned_abs, List, [], ◌∷◌, length, All, Contains, Option, Some, None, slice_get, slice_index_or, slice_set, if◌then◌else◌}
 use Rattle.std.specs.List.{list_all}
 use Rattle.std.specs.Option.{option_and_then}
 use Rattle.np_planner.specs.declared.counters.Need.{Need}

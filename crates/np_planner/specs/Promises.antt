@@ -1,15 +1,14 @@
 -- What the top call promises, status by status.
-use Rattle.std.specs.Prelude.{◌≡◌, ℕ, ◌⊎◌, List, Option, Some, None}
+use Rattle.std.specs.Prelude.{◌≡◌, ℕ, ◌⊎◌, List, Some, None}
 use Rattle.np_io.specs.Told.{Changes}
 use Rattle.np_io.specs.Pushes.{HasPushed, HasPushedPrefix}
 use Rattle.np_io.specs.Counts.{Rose}
-use Rattle.np_planner.specs.declared.answer.File.TheVariants.{Plan}
 use Rattle.np_planner.specs.declared.answer.Answer.{Answer}
-use Rattle.np_planner.specs.declared.answer.Answer.TheVariants.{Usage, Optimal, Unsolvable, Spent, CannotWrite, OutOfMemory}
+use Rattle.np_planner.specs.declared.answer.Answer.TheVariants.{Usage, Optimal, Unsolvable, Spent, OutOfMemory}
 use Rattle.np_planner.specs.Words.{Solve, solve_of}
 use Rattle.np_planner.specs.Answer.{text_of, status_of}
-use Rattle.np_planner.specs.Answers.{Shelf, IsAnswer, IsRight, WasSolved, WasUnsolvable, WasSpent, WriteFailed}
-use Rattle.np_planner.specs.Said.{Sink, IsSaid, IsPushed, IsCut, IsUnsaid}
+use Rattle.np_planner.specs.Answers.{Shelf, IsAnswer, IsRight, ReadsOnly, WasSolved, WasUnsolvable, WasSpent}
+use Rattle.np_planner.specs.Said.{Sink, IsSaid}
 
 -- a call of the planner: its words, and the shelf and the sink before and after it
 pub record Call : Type 0 where
@@ -39,6 +38,7 @@ pub record IsOptimal (call : Call) : Type 0 where
   pub cost : ℕ
   pub says : Says call (Optimal cost)
   pub solved : WasSolved command cost call.before call.after
+  pub reads : ReadsOnly command call.before.read_faults call.after.read_faults
 
 -- the text `Unsolvable, weak 0` was pushed, and the pair of the files has no plan
 pub record HasNoPlan (call : Call) : Type 0 where
@@ -46,6 +46,7 @@ pub record HasNoPlan (call : Call) : Type 0 where
   pub words_are : solve_of call.words ≡ Some command
   pub says : Says call Unsolvable
   pub unsolvable : WasUnsolvable command call.before call.after
+  pub reads : ReadsOnly command call.before.read_faults call.after.read_faults
 
 -- the text `Budget spent N, bound L, weak 0` was pushed, N is the budget of the words, and all that is said of N and L is true of the pair
 pub record IsBudgetSpent (call : Call) : Type 0 where
@@ -54,6 +55,7 @@ pub record IsBudgetSpent (call : Call) : Type 0 where
   pub bound : ℕ
   pub says : Says call (Spent command.nodes bound)
   pub spent : WasSpent command command.nodes bound call.before call.after
+  pub reads : ReadsOnly command call.before.read_faults call.after.read_faults
 
 -- the words fit no command, the usage text was pushed, and nothing was done
 pub record IsUsage (call : Call) : Type 0 where
@@ -69,6 +71,7 @@ pub record IsRefused (call : Call) (status : ℕ) : Type 0 where
   pub own_status : status_of answer ≡ status
   pub says : Says call answer
   pub right : IsRight command call.before call.after answer
+  pub reads : ReadsOnly command call.before.read_faults call.after.read_faults
 
 -- the push failed in this call: a prefix of a right answer's text, or of `Out of memory`, was pushed
 pub record IsPushCut (call : Call) : Type 0 where

@@ -1,10 +1,9 @@
 -- How each part of the first form is read.
-use Rattle.std.specs.Prelude.{ℕ, ◌<◌, Bool, true, false, not, ◌==◌, ◌&&◌, nat_le, List, [], ◌∷◌, length, Option, None, Some, codes, bytes_eq, if◌then◌else◌}
+use Rattle.std.specs.Prelude.{ℕ, Bool, true, false, not, ◌==◌, ◌&&◌, nat_le, List, [], ◌∷◌, length, Option, None, Some, codes, bytes_eq, if◌then◌else◌}
 use Rattle.std.specs.List.{list_any, list_all}
 use Rattle.std.specs.Char.{is_ascii_digit}
 use Rattle.np_lex.specs.Tokens.{Lexeme, Piece}
-use Rattle.np_lex.specs.declared.token.Kind.{Kind}
-use Rattle.np_lex.specs.declared.token.Kind.TheVariants.{Left, Right, Name, Keyword, Number, Op}
+use Rattle.np_lex.specs.declared.token.Kind.TheVariants.{Name, Keyword, Number, Op}
 use Rattle.np_planner.specs.declared.syntax.Whole.{Whole}
 use Rattle.np_planner.specs.declared.syntax.Test.{Test}
 use Rattle.np_planner.specs.declared.syntax.Effect.{Effect}
@@ -64,12 +63,12 @@ unfoldable pub term : Reader (List ℕ)
 term = behind (expect left) (before name right)
 
 -- (>= (function) least)
-unfoldable pub test : Reader Test
-test = behind (open_with (operator (codes ">="))) (before (made (λ x. record { function = x.0; least = x.1 }) (both term whole)) right)
+unfoldable pub lower_limit : Reader Test
+lower_limit = behind (open_with (operator (codes ">="))) (before (made (λ x. record { function = x.0; least = x.1 }) (both term whole)) right)
 
 -- (and test test ..)
 unfoldable pub tests : Reader (List Test)
-tests = behind (open_with (named (codes "and"))) (row test)
+tests = behind (open_with (named (codes "and"))) (row lower_limit)
 
 -- whether an effect increases
 abbrev pub increase_or : Outcome (Unit {0}) → Outcome Bool → Outcome Bool

@@ -1,5 +1,5 @@
 -- What becomes of an answer that is pushed to the sink.
-use Rattle.std.specs.Prelude.{◌≡◌, ℕ, ◌⊎◌, List, Option, codes}
+use Rattle.std.specs.Prelude.{◌≡◌, ℕ, ◌⊎◌, List, Option}
 use Rattle.np_io.specs.Told.{Changes}
 use Rattle.np_io.specs.Pushes.{HasPushed, HasPushedPrefix}
 use Rattle.np_io.specs.Counts.{Rose}
@@ -30,6 +30,7 @@ pub record IsCut (text : List ℕ) (old new : Sink) (status : ℕ) : Type 0 wher
 pub record IsUnsaid (old new : Sink) (status : ℕ) : Type 0 where
   pub memory_status : status ≡ 7
   pub nothing : new.pushed ≡ old.pushed
+  pub no_fault : new.faults ≡ old.faults
 
 abbrev pub IsGiven : List ℕ → ℕ → Sink → Sink → ℕ → Type 0
 IsGiven text own old new status = IsPushed text own old new status ⊎ (IsCut text old new status ⊎ IsUnsaid old new status)

@@ -1,5 +1,5 @@
 -- The state of a task of the first form that the values of its counters make.
-use Rattle.std.specs.Prelude.{Bool, false, [], Option, None, option_map, slice_get, if◌then◌else◌}
+use Rattle.std.specs.Prelude.{false, [], Option, None, option_map, slice_get, if◌then◌else◌}
 use Rattle.std.specs.Str.{bytes_eq}
 use Rattle.np_frac.specs.Fractions.{Fraction, whole}
 use Rattle.np_model.specs.declared.task.Term.{Term}

@@ -1,8 +1,7 @@
 -- The first form of domains and problems: each value has one list of lexemes, and bytes spell the value where theirs are these.
-use Rattle.std.specs.Prelude.{◌≡◌, ℕ, ◌≤◌, Bool, true, false, not, List, [], ◌∷◌, ◌++◌, length, All, Contains, Some, codes, if◌then◌else◌}
+use Rattle.std.specs.Prelude.{◌≡◌, ℕ, ◌≤◌, List, [], ◌∷◌, ◌++◌, length, All, Contains, Some, codes, if◌then◌else◌}
 use Rattle.std.specs.Char.{IsAsciiDigit}
 use Rattle.np_lex.specs.Tokens.{Lexeme, lexemes}
-use Rattle.np_lex.specs.declared.token.Kind.{Kind}
 use Rattle.np_lex.specs.declared.token.Kind.TheVariants as kind
 use Rattle.np_planner.specs.declared.syntax.Whole.{Whole}
 use Rattle.np_planner.specs.declared.syntax.Test.{Test}

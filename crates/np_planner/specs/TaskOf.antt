@@ -1,7 +1,7 @@
 -- The task that a pair of the first form stands for.
 use Rattle.std.specs.Prelude.{ℕ, ◌+◌, ◌-◌, ◌*◌, ℤ, pos, neg_ℤ, false, List, [], ◌∷◌, map, fold, None, codes, if◌then◌else◌}
 use Rattle.std.specs.Str.{bytes_eq}
-use Rattle.np_frac.specs.Fractions.{Fraction, whole}
+use Rattle.np_frac.specs.Fractions.{whole}
 use Rattle.np_model.specs.declared.task.Cond.{Cond}
 use Rattle.np_model.specs.declared.task.Cond.TheVariants as cond
 use Rattle.np_model.specs.declared.task.Op.TheVariants as op
@@ -18,7 +18,6 @@ use Rattle.np_planner.specs.declared.syntax.Test.{Test}
 use Rattle.np_planner.specs.declared.syntax.Effect.{Effect}
 use Rattle.np_planner.specs.declared.syntax.Action.{Action}
 use Rattle.np_planner.specs.declared.syntax.Domain.{Domain}
-use Rattle.np_planner.specs.declared.syntax.Value.{Value}
 use Rattle.np_planner.specs.declared.syntax.Problem.{Problem}
 
 -- the number that decimal digits stand for

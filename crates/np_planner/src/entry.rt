@@ -1,5 +1,5 @@
 //! The top call.
-ghost use Rattle.std.specs.Prelude.{◌≡◌, map, string_bytes};
+ghost use Rattle.std.specs.Prelude.{◌≡◌, ◌≤◌, map, string_bytes};
 ghost use Rattle.np_planner.specs.Words.{solve_of};
 ghost use Rattle.np_planner.specs.Answers.{shelf_of, IsAnswer};
 ghost use Rattle.np_planner.specs.Said.{sink_of};
@@ -69,6 +69,7 @@ pub fn planner<S: Shelf, O: Sink>(alloc: Global, words: &[String], shelf: &mut S
         (shelf_of (S.files shelf.new) (S.read_faults shelf.new) (S.write_faults shelf.new))
         (sink_of (O.pushed out.old) (O.faults out.old)) (sink_of (O.pushed out.new) (O.faults out.new))) in
         result ≡ 11 → IsBudgetSpent call }
+    ensures later { O.faults out.old ≤ O.faults out.new }
 {
     let answer = answer(alloc, words, shelf);
     say(alloc, &answer, out)

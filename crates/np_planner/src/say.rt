@@ -1,4 +1,5 @@
 //! What the planner says.
+ghost use Rattle.std.specs.Prelude.{◌≤◌};
 ghost use Rattle.np_planner.specs.Said.{sink_of, IsGiven, IsSaid};
 
 use crate::answer::Answer;
@@ -7,7 +8,8 @@ use std::alloc::Global;
 
 /// Pushes an answer, and gives the status to end with.
 pub fn say<O: Sink>(alloc: Global, answer: &Answer, out: &mut O) -> u8
-    ensures { IsSaid answer.now (sink_of (O.pushed out.old) (O.faults out.old)) (sink_of (O.pushed out.new) (O.faults out.new)) result }
+    ensures said { IsSaid answer.now (sink_of (O.pushed out.old) (O.faults out.old)) (sink_of (O.pushed out.new) (O.faults out.new)) result }
+    ensures later { O.faults out.old ≤ O.faults out.new }
 {
     match answer.text(alloc) {
         Ok(text) => push(text.as_bytes(), answer.status(), out),
@@ -17,7 +19,8 @@ pub fn say<O: Sink>(alloc: Global, answer: &Answer, out: &mut O) -> u8
 
 /// Pushes a text that goes with a status, and gives the status to end with.
 fn push<O: Sink>(text: &[u8], status: u8, out: &mut O) -> u8
-    ensures { IsGiven text.now status (sink_of (O.pushed out.old) (O.faults out.old)) (sink_of (O.pushed out.new) (O.faults out.new)) result }
+    ensures given { IsGiven text.now status (sink_of (O.pushed out.old) (O.faults out.old)) (sink_of (O.pushed out.new) (O.faults out.new)) result }
+    ensures later { O.faults out.old ≤ O.faults out.new }
 {
     match out.push(text) {
         Ok(()) => status,

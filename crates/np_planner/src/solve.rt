@@ -1,7 +1,8 @@
 //! The command `solve`.
 ghost use Rattle.std.specs.Prelude.{◌≡◌, ◌≤◌, ◌^◌, length, IfOk, IfErr, IsErrOf};
 ghost use Rattle.np_planner.specs.Told.{told};
-ghost use Rattle.np_planner.specs.Answers.{shelf_of, IsRight, IsRead, IsUnread, IsUnwritten, ReadsLater, IsPut};
+ghost use Rattle.np_planner.specs.Answers.{shelf_of, IsRight, IsRead, AreRead, IsUnread, IsUnwritten, ReadsOnly, IsPut};
+ghost use Rattle.np_io.specs.Counts.{OnlyAt};
 ghost use Rattle.np_planner.specs.Outcomes.{IsOutcome, IsOutcomeOf, HasNoPair, Concludes};
 ghost use Rattle.np_planner.specs.Pairs.{IsPairOf};
 ghost use Rattle.np_planner.specs.Counters.{IsInRange};
@@ -94,7 +95,7 @@ fn work(alloc: Global, domain: &[u8], problem: &[u8], nodes: u32) -> Result<Outc
 /// The bytes of a domain or a problem, or the answer where it can't be had.
 fn read<S: Shelf>(alloc: Global, shelf: &mut S, name: &str, file: File) -> Result<Vec<u8>, Answer>
     ensures unwritten { IsUnwritten (shelf_of (S.files shelf.old) (S.read_faults shelf.old) (S.write_faults shelf.old)) (shelf_of (S.files shelf.new) (S.read_faults shelf.new) (S.write_faults shelf.new)) }
-    ensures reads { ReadsLater (S.read_faults shelf.old) (S.read_faults shelf.new) }
+    ensures reads { OnlyAt name.now (S.read_faults shelf.old) (S.read_faults shelf.new) }
     ensures read { IfOk result (λ bytes. IsRead (shelf_of (S.files shelf.old) (S.read_faults shelf.old) (S.write_faults shelf.old)) name.now bytes.items) }
     ensures refused { IfErr result (IsUnread file name.now (shelf_of (S.files shelf.old) (S.read_faults shelf.old) (S.write_faults shelf.old)) (shelf_of (S.files shelf.new) (S.read_faults shelf.new) (S.write_faults shelf.new))) }
 {
@@ -106,18 +107,36 @@ fn read<S: Shelf>(alloc: Global, shelf: &mut S, name: &str, file: File) -> Resul
     }
 }
 
+/// The bytes of both files, or the answer where one of them can't be had.
+fn read_both<S: Shelf>(
+    alloc: Global,
+    command: &Solve<'_>,
+    shelf: &mut S,
+) -> Result<(Vec<u8>, Vec<u8>), Answer>
+    ensures unwritten { IsUnwritten (shelf_of (S.files shelf.old) (S.read_faults shelf.old) (S.write_faults shelf.old)) (shelf_of (S.files shelf.new) (S.read_faults shelf.new) (S.write_faults shelf.new)) }
+    ensures reads { ReadsOnly (told command.now) (S.read_faults shelf.old) (S.read_faults shelf.new) }
+    ensures read { IfOk result (λ files. AreRead (told command.now) (shelf_of (S.files shelf.old) (S.read_faults shelf.old) (S.write_faults shelf.old)) files.0.items files.1.items) }
+    ensures refused { IfErr result (IsRight (told command.now) (shelf_of (S.files shelf.old) (S.read_faults shelf.old) (S.write_faults shelf.old)) (shelf_of (S.files shelf.new) (S.read_faults shelf.new) (S.write_faults shelf.new))) }
+{
+    let domain = match read(alloc, shelf, command.domain, File::Domain) {
+        Ok(bytes) => bytes,
+        Err(answer) => return Err(answer),
+    };
+    match read(alloc, shelf, command.problem, File::Problem) {
+        Ok(problem) => Ok((domain, problem)),
+        Err(answer) => Err(answer),
+    }
+}
+
 /// Searches for a cheapest plan of the pair of files that the words name, and puts it.
 pub fn solve<S: Shelf>(alloc: Global, command: &Solve<'_>, shelf: &mut S) -> Answer
     requires some_nodes { 1 ≤ command.now.nodes }
     requires few_nodes { command.now.nodes ≤ 2 ^ 24 }
     ensures right { IsRight (told command.now) (shelf_of (S.files shelf.old) (S.read_faults shelf.old) (S.write_faults shelf.old)) (shelf_of (S.files shelf.new) (S.read_faults shelf.new) (S.write_faults shelf.new)) result }
+    ensures reads { ReadsOnly (told command.now) (S.read_faults shelf.old) (S.read_faults shelf.new) }
 {
-    let domain = match read(alloc, shelf, command.domain, File::Domain) {
-        Ok(bytes) => bytes,
-        Err(answer) => return answer,
-    };
-    let problem = match read(alloc, shelf, command.problem, File::Problem) {
-        Ok(bytes) => bytes,
+    let (domain, problem) = match read_both(alloc, command, shelf) {
+        Ok(files) => files,
         Err(answer) => return answer,
     };
     match work(alloc, domain.as_slice(), problem.as_slice(), command.nodes) {
@@ -129,7 +148,8 @@ pub fn solve<S: Shelf>(alloc: Global, command: &Solve<'_>, shelf: &mut S) -> Ans
 
 /// Puts the plan, if there is one, and gives the answer.
 fn conclude<S: Shelf>(command: &Solve<'_>, outcome: Outcome, shelf: &mut S) -> Answer
-    ensures { Concludes (told command.now) outcome (shelf_of (S.files shelf.old) (S.read_faults shelf.old) (S.write_faults shelf.old)) (shelf_of (S.files shelf.new) (S.read_faults shelf.new) (S.write_faults shelf.new)) result }
+    ensures concludes { Concludes (told command.now) outcome (shelf_of (S.files shelf.old) (S.read_faults shelf.old) (S.write_faults shelf.old)) (shelf_of (S.files shelf.new) (S.read_faults shelf.new) (S.write_faults shelf.new)) result }
+    ensures reads { S.read_faults shelf.new ≡ S.read_faults shelf.old }
 {
     match outcome {
         Outcome::Plan(text, cost) => put_plan(shelf, command.plan, text.as_slice(), cost),
@@ -140,7 +160,8 @@ fn conclude<S: Shelf>(command: &Solve<'_>, outcome: Outcome, shelf: &mut S) -> A
 
 /// Puts a cheapest plan of this cost.
 fn put_plan<S: Shelf>(shelf: &mut S, name: &str, text: &[u8], cost: usize) -> Answer
-    ensures { IsPut name.now text.now cost (shelf_of (S.files shelf.old) (S.read_faults shelf.old) (S.write_faults shelf.old)) (shelf_of (S.files shelf.new) (S.read_faults shelf.new) (S.write_faults shelf.new)) result }
+    ensures put { IsPut name.now text.now cost (shelf_of (S.files shelf.old) (S.read_faults shelf.old) (S.write_faults shelf.old)) (shelf_of (S.files shelf.new) (S.read_faults shelf.new) (S.write_faults shelf.new)) result }
+    ensures reads { S.read_faults shelf.new ≡ S.read_faults shelf.old }
 {
     match shelf.put(name, text) {
         Ok(()) => Answer::Optimal(cost),

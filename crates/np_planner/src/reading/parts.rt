@@ -15,9 +15,9 @@ use sqlite_items::Items;
 use std::alloc::Global;
 
 /// Reads `(>= (function) least)`.
-#[tactic(auto, unfolding(crate::specs::ReadingForm::test))]
+#[tactic(auto, unfolding(crate::specs::ReadingForm::lower_limit))]
 fn test(alloc: Global, lexer: Lexer<'_>) -> Read<'_, Test>
-    ensures { Gives (λ x. (x.0, pieces_left x.1)) result (form.test (pieces_left lexer.entry)) }
+    ensures { Gives (λ x. (x.0, pieces_left x.1)) result (form.lower_limit (pieces_left lexer.entry)) }
 {
     let lexer = open(lexer, Kind::Op, b">=")?;
     let (function, lexer) = term(alloc, lexer)?;
@@ -28,7 +28,7 @@ fn test(alloc: Global, lexer: Lexer<'_>) -> Read<'_, Test>
 
 /// Reads tests up to a closing bracket.
 fn tests_to_right(alloc: Global, lexer: Lexer<'_>) -> Read<'_, Items<Test>>
-    ensures { Gives (λ x. (x.0, pieces_left x.1)) result (steps.row form.test (pieces_left lexer.entry)) }
+    ensures { Gives (λ x. (x.0, pieces_left x.1)) result (steps.row form.lower_limit (pieces_left lexer.entry)) }
 {
     let mut found = Items::new(alloc);
     let mut rest = lexer;

@@ -12,4 +12,4 @@ returns-clause-unwritten g c e =
     (shelf_of (g.S.Shelf.files c.answer-answer.new.shelf) (g.S.Shelf.read_faults c.answer-answer.new.shelf) (g.S.Shelf.write_faults c.answer-answer.new.shelf))
     (sink_of (g.O.Sink.pushed c.args.out.now) (g.O.Sink.faults c.args.out.now))
     (sink_of (g.O.Sink.pushed c.say.new.out) (g.O.Sink.faults c.say.new.out))) in
-    unwritten_of call c.say.result (promise_of call c.say.result (record { answer = c.answer-answer.result; right = c.answer-answer.ensures; said = c.say.ensures })) e
+    unwritten_of call c.say.result (promise_of call c.say.result (record { answer = c.answer-answer.result; right = c.answer-answer.ensures; said = c.say.ensures.said })) e

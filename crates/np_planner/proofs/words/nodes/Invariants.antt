@@ -1,4 +1,4 @@
-use Rattle.std.proofs.Common.{◌≡◌, ◌≤◌, ◌^◌, ◌<◌, ℕ, drop}
+use Rattle.std.proofs.Common.{◌≡◌, ◌≤◌, ◌^◌, ◌<◌, drop}
 use Rattle.np_planner.specs.Words.{number_from}
 use Rattle.np_planner.proofs.words.nodes.Given as goal
 
