@@ -2,6 +2,7 @@
 use Rattle.std.proofs.Common.{◌≡◌, ℕ, List, refl, sym, ◌∙◌, subst}
 use Rattle.np_io.specs.Files.{Changes, HasPut, HasPutPrefix}
 use Rattle.np_io.specs.Counts.{Rose, OnlyAt}
+use Rattle.np_model.specs.Tasks.{IsTask}
 use Rattle.np_planner.specs.declared.answer.File.TheVariants as file
 use Rattle.np_planner.specs.declared.answer.Answer.{Answer}
 use Rattle.np_planner.specs.declared.answer.Answer.TheVariants.{Usage, CannotRead, TooLong, NotBuilt, Optimal, Unsolvable, Spent, CannotWrite, OutOfMemory}
@@ -10,10 +11,17 @@ use Rattle.np_planner.specs.declared.solve.Outcome.TheVariants as outcome
 use Rattle.np_planner.specs.Words.{Solve}
 use Rattle.np_planner.specs.Outcomes.{IsOutcome, Concludes}
 use Rattle.np_planner.specs.Answers.{Shelf, AreRead, HavePair, IsCheapest, IsUnwritten, WasSolved, WriteFailed, WasUnsolvable, WasSpent, IsRight, IsPut}
+use Rattle.np_planner.specs.TaskOf.{task_of}
+use Rattle.np_planner.proofs.SamePlansTask.{is_task}
+use Rattle.np_planner.proofs.Proper.{is_proper}
 
 module _ (command : Solve) (old after : Shelf) (domain problem : List ℕ) (both_read : AreRead command old domain problem) (unwritten : IsUnwritten old after) where
+  -- the task of the pair keeps what every task keeps
+  well_formed : (o : Outcome) (is : IsOutcome domain problem command.nodes o) → IsTask (task_of is.domain is.problem)
+  well_formed o is = is_task is.domain is.problem (is_proper domain is.domain is.spelled.domain both_read.domain_read.within) is.spelled.first_form
+
   abbrev pair_of : (o : Outcome) → IsOutcome domain problem command.nodes o → HavePair command old
-  pair_of o is = record { domain_bytes = domain; problem_bytes = problem; read = both_read; domain = is.domain; problem = is.problem; spelled = is.spelled }
+  pair_of o is = record { domain_bytes = domain; problem_bytes = problem; read = both_read; domain = is.domain; problem = is.problem; spelled = is.spelled; well_formed = well_formed o is }
 
   -- after a search that finds no plan
   pub was_unsolvable : IsOutcome domain problem command.nodes outcome.NoPlan → WasUnsolvable command old after

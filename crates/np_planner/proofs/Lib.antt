@@ -3,6 +3,7 @@ pub mod Numbers
 pub mod Outcomes
 pub mod PairLemmas
 pub mod Promises
+pub mod Proper
 pub mod ReadingForms
 pub mod ReadingLaws
 pub mod ReadingTexts

@@ -1,5 +1,5 @@
 -- What the search over counters finds, said of the task.
-use Rattle.std.proofs.Common.{◌≡◌, ℕ, ◌<◌, List, [], ◌∷◌, length, map, Some, option_map, pos, get_or, slice_get, refl, sym, ap, ◌∙◌, subst}
+use Rattle.std.proofs.Common.{◌≡◌, ℕ, ◌<◌, List, [], ◌∷◌, length, map, Some, option_map, pos, get_or, slice_get, refl, sym, ap, ◌∙◌, subst, arith}
 use Rattle.std.specs.Prelude.{All, Contains}
 use Rattle.std.proofs.lemmas.List.{length-map}
 use Rattle.std.proofs.lemmas.Option.{slice_get-map, slice_get_within}
@@ -22,6 +22,7 @@ use Rattle.np_planner.specs.declared.solve.Outcome.{Outcome}
 use Rattle.np_planner.specs.declared.solve.Outcome.TheVariants.{Plan, NoPlan, Spent}
 use Rattle.np_planner.specs.Pairs.{IsPairOf}
 use Rattle.np_planner.specs.Outcomes.{Says, IsOutcome, IsOutcomeOf}
+use Rattle.np_planner.proofs.SearchCover.{further_cover}
 use Rattle.np_planner.proofs.SamePlansStart.{start_is, values_are}
 use Rattle.np_planner.proofs.SamePlansSteps.{goal_is}
 use Rattle.np_planner.proofs.SamePlansRuns.{run_is, cost_is, some_from, mapped_from}
@@ -67,16 +68,32 @@ module _ (d : Domain) (p : Problem) (form : IsFirstForm d p) (bound : ℕ) where
   pub spent_is : (nodes : ℕ) → IsSpentOn (counters_of d p) nodes bound → IsSpent (task_of d p) nodes bound
   spent_is nodes spent = record {
     none_cheaper = bound_is d p form bound spent.none_shorter;
-    states = map state_of spent.reached;
+    states = states;
     count = length-map spent.reached state_of ∙ spent.count;
     distinct = distinct_is spent.reached spent.distinct;
-    within = All-map (IsWithin (task_of d p) bound) state_of spent.reached (λ k w inside. within_is _ (spent.within k w inside));
+    within = within;
     further = state_of spent.further;
-    further_within = within_is spent.further spent.further_within;
+    further_within = further_within;
     further_new = new_is spent.reached spent.further spent.further_new;
     further_no_goal = goal_is d p form spent.further (reached_length spent.further_within) ∙ spent.further_no_goal;
+    no_small_space = λ all covers.
+        let more : length states < length all =
+        further_cover (state_of spent.further) states all (distinct_is spent.reached spent.distinct) (new_is spent.reached spent.further spent.further_new)
+        (covers (state_of spent.further) further_within.cost further_within.reached)
+        (λ k s inside. covers (get_or states k s) (within k s inside).cost (within k s inside).reached)
+        in
+        omega (arith, more, length-map spent.reached state_of, spent.count);
   }
     where
+      states : List State
+      states = map state_of spent.reached
+
+      within : All (IsWithin (task_of d p) bound) states
+      within = All-map (IsWithin (task_of d p) bound) state_of spent.reached (λ k w inside. within_is _ (spent.within k w inside))
+
+      further_within : IsWithin (task_of d p) bound (state_of spent.further)
+      further_within = within_is spent.further spent.further_within
+
       reached_length : {values : Values} → IsWithinMoves (counters_of d p) bound values → length values ≡ length (counters_of d p).start
       reached_length w = length-run (counters_of d p) w.numbers (counters_of d p).start _ w.runs
 

@@ -1,9 +1,7 @@
--- Distinct values that all stand in a list are no more than it has, so a small space spends no large budget.
+-- Distinct elements that all stand in a list are no more than it has, so a small space spends no large budget.
 use Rattle.std.proofs.Common.{◌≡◌, ℕ, zero, suc, ◌≤◌, ◌<◌, List, [], ◌∷◌, length, remove, Some, slice_get, get_or, Contains, All, refl, sym, ap, ◌∙◌, arith}
 use Rattle.std.proofs.lemmas.List.Edits.{length-remove}
 use Rattle.std.proofs.lemmas.Option.{same_Some, slice_get-get_or}
-use Rattle.np_planner.specs.declared.counters.Counters.{Counters}
-use Rattle.np_planner.specs.Counters.{Values, AreDistinct, IsWithin, IsSpent}
 use Rattle.np_planner.proofs.SearchGrowth.{contains_placed, placed_contained}
 
 -- one more element in front
@@ -18,7 +16,12 @@ contains_remove (z ∷ zs) zero (suc j) x y hk hj apart = contains_placed zs j y
 contains_remove (z ∷ zs) (suc k) zero x y hk hj apart = (0, omega arith, same_Some z y hj)
 contains_remove (z ∷ zs) (suc k) (suc j) x y hk hj apart = contains_behind (remove zs k) z y (contains_remove zs k j x y hk hj (λ e. apart (ap suc e)))
 
-pub distinct_cover : (reached all : List Values) → AreDistinct reached → All (Contains all) reached → length reached ≤ length all
+-- no two places have the same element
+abbrev AreDistinct : {X : Type 0} → List X → Type 0
+AreDistinct {X = X} xs = (i j : ℕ) (x : X) → slice_get xs i ≡ Some x → slice_get xs j ≡ Some x → i ≡ j
+
+-- distinct elements that all stand in a list are no more than it has
+distinct_cover : {X : Type 0} (reached all : List X) → AreDistinct reached → All (Contains all) reached → length reached ≤ length all
 distinct_cover [] all distinct covered = omega arith
 distinct_cover (x ∷ xs) all distinct covered =
     let c : Contains all x = covered 0 x (omega arith) in
@@ -38,22 +41,18 @@ distinct_cover (x ∷ xs) all distinct covered =
     in
     omega (arith, rest, length-remove all c.0 c.1)
 
--- a spent budget is below the number of values that are within the bound
-pub spent_below : (counters : Counters) (nodes bound : ℕ) (all : List Values) → ((values : Values) → IsWithin counters bound values → Contains all values) → IsSpent counters nodes bound → nodes < length all
-spent_below counters nodes bound all covers spent =
-    let distinct : AreDistinct (spent.further ∷ spent.reached) = further_distinct spent.further spent.reached spent.distinct spent.further_new in
-    let h : length (spent.further ∷ spent.reached) ≤ length all =
-    distinct_cover (spent.further ∷ spent.reached) all distinct
-    (λ k d lt. covered spent.further spent.reached (covers spent.further spent.further_within) (λ j e less. covers (get_or spent.reached j e) (spent.within j e less)) k d lt)
-    in
-    omega (arith, h, spent.count)
+-- distinct elements and a further one that all stand in a list are no more than it has
+pub further_cover : {X : Type 0} (further : X) (reached all : List X) → AreDistinct reached → (Contains reached further → ⊥) → Contains all further → All (Contains all) reached → length reached < length all
+further_cover {X = X} further reached all distinct new first rest =
+    let h : length (further ∷ reached) ≤ length all = distinct_cover (further ∷ reached) all further_distinct covered in
+    omega (arith, h)
   where
-    further_distinct : (x : Values) (xs : List Values) → AreDistinct xs → (Contains xs x → ⊥) → AreDistinct (x ∷ xs)
-    further_distinct x xs distinct new zero zero v hi hj = refl
-    further_distinct x xs distinct new zero (suc j) v hi hj = absurd (new (contains_placed xs j x (hj ∙ sym hi)))
-    further_distinct x xs distinct new (suc i) zero v hi hj = absurd (new (contains_placed xs i x (hi ∙ sym hj)))
-    further_distinct x xs distinct new (suc i) (suc j) v hi hj = ap suc (distinct i j v hi hj)
+    further_distinct : AreDistinct (further ∷ reached)
+    further_distinct zero zero v hi hj = refl
+    further_distinct zero (suc j) v hi hj = absurd (new (contains_placed reached j further (hj ∙ sym hi)))
+    further_distinct (suc i) zero v hi hj = absurd (new (contains_placed reached i further (hi ∙ sym hj)))
+    further_distinct (suc i) (suc j) v hi hj = ap suc (distinct i j v hi hj)
 
-    covered : (x : Values) (xs : List Values) → Contains all x → All (Contains all) xs → All (Contains all) (x ∷ xs)
-    covered x xs first rest zero d lt = first
-    covered x xs first rest (suc k) d lt = rest k d (omega arith)
+    covered : All (Contains all) (further ∷ reached)
+    covered zero d lt = first
+    covered (suc k) d lt = rest k d (omega arith)

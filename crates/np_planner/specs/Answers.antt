@@ -1,11 +1,12 @@
 -- Which answers of `solve` are right.
-use Rattle.std.specs.Prelude.{◌≡◌, ℕ, ◌^◌, ◌≤◌, pos, Option, Some, None, List, length, map, All, Contains, slice_get, false}
+use Rattle.std.specs.Prelude.{◌≡◌, ℕ, ◌^◌, ◌<◌, ◌≤◌, pos, Option, Some, None, List, length, map, All, Contains, slice_get, false}
 use Rattle.std.specs.Str.{bytes_eq}
 use Rattle.np_io.specs.Files.{Files, Changes, HasPut, HasPutPrefix, IsHeld, IsLonger}
 use Rattle.np_io.specs.Counts.{Rose, OnlyAt}
 use Rattle.np_frac.specs.Fractions.{Fraction, whole}
 use Rattle.np_model.specs.declared.task.Task.{Task}
 use Rattle.np_model.specs.States.{State}
+use Rattle.np_model.specs.Tasks.{IsTask}
 use Rattle.np_model.specs.Plans.{IsPlan, IsUnsolvable, NoPlanBelow, Reaches, IsAtMost, is_goal}
 use Rattle.np_planner.specs.declared.answer.File.{File}
 use Rattle.np_planner.specs.declared.answer.File.TheVariants.{Domain, Problem, Plan}
@@ -24,8 +25,9 @@ pub record Shelf : Type 0 where
   pub read_faults : List ℕ → ℕ
   pub write_faults : List ℕ → ℕ
 
-abbrev pub shelf_of : Option Files → (List ℕ → ℕ) → (List ℕ → ℕ) → Shelf
-shelf_of files read_faults write_faults = record { files = files; read_faults = read_faults; write_faults = write_faults }
+-- what the meanings of a shelf's type say of it
+abbrev pub shelf_of : {S : Type 0} → (S → Option Files) → (S → List ℕ → ℕ) → (S → List ℕ → ℕ) → S → Shelf
+shelf_of files read_faults write_faults shelf = record { files = files shelf; read_faults = read_faults shelf; write_faults = write_faults shelf }
 
 -- the most bytes that a domain or a problem may have
 abbrev pub most_bytes : ℕ
@@ -41,7 +43,7 @@ pub record AreRead (command : Solve) (shelf : Shelf) (domain problem : List ℕ)
   pub domain_read : IsRead shelf command.domain domain
   pub problem_read : IsRead shelf command.problem problem
 
--- the files spell a pair of the first form
+-- the files spell a pair of the first form, and its task is well formed
 pub record HavePair (command : Solve) (shelf : Shelf) : Type 0 where
   pub domain_bytes : List ℕ
   pub problem_bytes : List ℕ
@@ -49,6 +51,7 @@ pub record HavePair (command : Solve) (shelf : Shelf) : Type 0 where
   pub domain : DomainText
   pub problem : ProblemText
   pub spelled : SpellsPair domain_bytes problem_bytes domain problem
+  pub well_formed : IsTask (task_of domain problem)
 
 -- the files spell a pair that isn't of the first form
 pub record HaveNoPair (command : Solve) (shelf : Shelf) : Type 0 where
@@ -75,7 +78,8 @@ pub record IsWithin (task : Task) (bound : ℕ) (s : State) : Type 0 where
   pub reached : Reaches task s cost
   pub cheap : IsAtMost cost (whole (pos bound))
 
--- no plan costs less than the bound; so many different states, and a further one that is no goal, are reached at no more than it
+-- no plan costs less than the bound; so many different states, and a further one that is no goal, are reached at no more than it;
+-- and each list that holds every state that can be reached is longer than the budget, so the budget isn't spent where the space is small
 pub record IsSpent (task : Task) (nodes bound : ℕ) : Type 0 where
   pub none_cheaper : NoPlanBelow task (whole (pos bound))
   pub states : List State
@@ -86,6 +90,7 @@ pub record IsSpent (task : Task) (nodes bound : ℕ) : Type 0 where
   pub further_within : IsWithin task bound further
   pub further_new : Contains states further → ⊥
   pub further_no_goal : is_goal task further ≡ false
+  pub no_small_space : (all : List State) → ((s : State) (cost : Fraction) → Reaches task s cost → Contains all s) → nodes < length all
 
 -- no file was written, and no write failed
 pub record IsUnwritten (old new : Shelf) : Type 0 where

@@ -1,5 +1,6 @@
 -- What the top call promises, status by status.
-use Rattle.std.specs.Prelude.{◌≡◌, ℕ, ◌⊎◌, List, Some, None}
+use Rattle.std.specs.Prelude.{Option, ◌≡◌, ℕ, ◌⊎◌, List, Some, None}
+use Rattle.np_io.specs.Files.{Files}
 use Rattle.np_io.specs.Told.{Changes}
 use Rattle.np_io.specs.Pushes.{HasPushed, HasPushedPrefix}
 use Rattle.np_io.specs.Counts.{Rose}
@@ -7,8 +8,8 @@ use Rattle.np_planner.specs.declared.answer.Answer.{Answer}
 use Rattle.np_planner.specs.declared.answer.Answer.TheVariants.{Usage, Optimal, Unsolvable, Spent, OutOfMemory}
 use Rattle.np_planner.specs.Words.{Solve, solve_of}
 use Rattle.np_planner.specs.Answer.{text_of, status_of}
-use Rattle.np_planner.specs.Answers.{Shelf, IsAnswer, IsRight, ReadsOnly, WasSolved, WasUnsolvable, WasSpent}
-use Rattle.np_planner.specs.Said.{Sink, IsSaid}
+use Rattle.np_planner.specs.Answers.{Shelf, shelf_of, IsAnswer, IsRight, ReadsOnly, WasSolved, WasUnsolvable, WasSpent}
+use Rattle.np_planner.specs.Said.{Sink, sink_of, IsSaid}
 
 -- a call of the planner: its words, and the shelf and the sink before and after it
 pub record Call : Type 0 where
@@ -18,8 +19,15 @@ pub record Call : Type 0 where
   pub out_before : Sink
   pub out_after : Sink
 
-abbrev pub call_of : List (List ℕ) → Shelf → Shelf → Sink → Sink → Call
-call_of words before after out_before out_after = record { words = words; before = before; after = after; out_before = out_before; out_after = out_after }
+-- a call, by the meanings of the shelf's and the sink's types
+abbrev pub call_of : {S O : Type 0} → (S → Option Files) → (S → List ℕ → ℕ) → (S → List ℕ → ℕ) → (O → Option (List ℕ)) → (O → ℕ) → List (List ℕ) → S → S → O → O → Call
+call_of files read_faults write_faults pushed faults words before after out_before out_after = record {
+  words = words;
+  before = shelf_of files read_faults write_faults before;
+  after = shelf_of files read_faults write_faults after;
+  out_before = sink_of pushed faults out_before;
+  out_after = sink_of pushed faults out_after;
+}
 
 -- exactly this text was appended, where the sink tells
 abbrev pub Says : Call → Answer → Type 0

@@ -12,8 +12,9 @@ pub record Sink : Type 0 where
   pub pushed : Option (List ℕ)
   pub faults : ℕ
 
-abbrev pub sink_of : Option (List ℕ) → ℕ → Sink
-sink_of pushed faults = record { pushed = pushed; faults = faults }
+-- what the meanings of a sink's type say of it
+abbrev pub sink_of : {O : Type 0} → (O → Option (List ℕ)) → (O → ℕ) → O → Sink
+sink_of pushed faults sink = record { pushed = pushed sink; faults = faults sink }
 
 -- the whole text was pushed, and the call ends with the answer's status
 pub record IsPushed (text : List ℕ) (own : ℕ) (old new : Sink) (status : ℕ) : Type 0 where

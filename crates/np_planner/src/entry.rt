@@ -14,7 +14,9 @@ use std::alloc::Global;
 
 /// The answer to the words.
 fn answer<S: Shelf>(alloc: Global, words: &[String], shelf: &mut S) -> Answer
-    ensures { IsAnswer (solve_of (map string_bytes words.now)) (shelf_of (S.files shelf.old) (S.read_faults shelf.old) (S.write_faults shelf.old)) (shelf_of (S.files shelf.new) (S.read_faults shelf.new) (S.write_faults shelf.new)) result }
+    ensures { IsAnswer (solve_of (map string_bytes words.now))
+        (shelf_of S.files S.read_faults S.write_faults shelf.old)
+        (shelf_of S.files S.read_faults S.write_faults shelf.new) result }
 {
     match solve_words(words) {
         Some(command) => solve(alloc, &command, shelf),
@@ -24,50 +26,32 @@ fn answer<S: Shelf>(alloc: Global, words: &[String], shelf: &mut S) -> Answer
 
 /// Does what the words say, says so, and gives the status to end with.
 pub fn planner<S: Shelf, O: Sink>(alloc: Global, words: &[String], shelf: &mut S, out: &mut O) -> u8
-    ensures answered { let call = (call_of (map string_bytes words.now)
-        (shelf_of (S.files shelf.old) (S.read_faults shelf.old) (S.write_faults shelf.old))
-        (shelf_of (S.files shelf.new) (S.read_faults shelf.new) (S.write_faults shelf.new))
-        (sink_of (O.pushed out.old) (O.faults out.old)) (sink_of (O.pushed out.new) (O.faults out.new))) in
+    ensures answered { let call = call_of S.files S.read_faults S.write_faults O.pushed O.faults
+        (map string_bytes words.now) shelf.old shelf.new out.old out.new in
         IsAnswered call result }
-    ensures optimal { let call = (call_of (map string_bytes words.now)
-        (shelf_of (S.files shelf.old) (S.read_faults shelf.old) (S.write_faults shelf.old))
-        (shelf_of (S.files shelf.new) (S.read_faults shelf.new) (S.write_faults shelf.new))
-        (sink_of (O.pushed out.old) (O.faults out.old)) (sink_of (O.pushed out.new) (O.faults out.new))) in
+    ensures optimal { let call = call_of S.files S.read_faults S.write_faults O.pushed O.faults
+        (map string_bytes words.now) shelf.old shelf.new out.old out.new in
         result ≡ 0 → IsOptimal call }
-    ensures usage { let call = (call_of (map string_bytes words.now)
-        (shelf_of (S.files shelf.old) (S.read_faults shelf.old) (S.write_faults shelf.old))
-        (shelf_of (S.files shelf.new) (S.read_faults shelf.new) (S.write_faults shelf.new))
-        (sink_of (O.pushed out.old) (O.faults out.old)) (sink_of (O.pushed out.new) (O.faults out.new))) in
+    ensures usage { let call = call_of S.files S.read_faults S.write_faults O.pushed O.faults
+        (map string_bytes words.now) shelf.old shelf.new out.old out.new in
         result ≡ 2 → IsUsage call }
-    ensures refused { let call = (call_of (map string_bytes words.now)
-        (shelf_of (S.files shelf.old) (S.read_faults shelf.old) (S.write_faults shelf.old))
-        (shelf_of (S.files shelf.new) (S.read_faults shelf.new) (S.write_faults shelf.new))
-        (sink_of (O.pushed out.old) (O.faults out.old)) (sink_of (O.pushed out.new) (O.faults out.new))) in
+    ensures refused { let call = call_of S.files S.read_faults S.write_faults O.pushed O.faults
+        (map string_bytes words.now) shelf.old shelf.new out.old out.new in
         result ≡ 3 → IsRefused call 3 }
-    ensures unread { let call = (call_of (map string_bytes words.now)
-        (shelf_of (S.files shelf.old) (S.read_faults shelf.old) (S.write_faults shelf.old))
-        (shelf_of (S.files shelf.new) (S.read_faults shelf.new) (S.write_faults shelf.new))
-        (sink_of (O.pushed out.old) (O.faults out.old)) (sink_of (O.pushed out.new) (O.faults out.new))) in
+    ensures unread { let call = call_of S.files S.read_faults S.write_faults O.pushed O.faults
+        (map string_bytes words.now) shelf.old shelf.new out.old out.new in
         result ≡ 4 → IsRefused call 4 }
-    ensures unwritten { let call = (call_of (map string_bytes words.now)
-        (shelf_of (S.files shelf.old) (S.read_faults shelf.old) (S.write_faults shelf.old))
-        (shelf_of (S.files shelf.new) (S.read_faults shelf.new) (S.write_faults shelf.new))
-        (sink_of (O.pushed out.old) (O.faults out.old)) (sink_of (O.pushed out.new) (O.faults out.new))) in
+    ensures unwritten { let call = call_of S.files S.read_faults S.write_faults O.pushed O.faults
+        (map string_bytes words.now) shelf.old shelf.new out.old out.new in
         result ≡ 5 → IsUnwritten call }
-    ensures memory { let call = (call_of (map string_bytes words.now)
-        (shelf_of (S.files shelf.old) (S.read_faults shelf.old) (S.write_faults shelf.old))
-        (shelf_of (S.files shelf.new) (S.read_faults shelf.new) (S.write_faults shelf.new))
-        (sink_of (O.pushed out.old) (O.faults out.old)) (sink_of (O.pushed out.new) (O.faults out.new))) in
+    ensures memory { let call = call_of S.files S.read_faults S.write_faults O.pushed O.faults
+        (map string_bytes words.now) shelf.old shelf.new out.old out.new in
         result ≡ 7 → IsOutOfMemory call }
-    ensures unsolvable { let call = (call_of (map string_bytes words.now)
-        (shelf_of (S.files shelf.old) (S.read_faults shelf.old) (S.write_faults shelf.old))
-        (shelf_of (S.files shelf.new) (S.read_faults shelf.new) (S.write_faults shelf.new))
-        (sink_of (O.pushed out.old) (O.faults out.old)) (sink_of (O.pushed out.new) (O.faults out.new))) in
+    ensures unsolvable { let call = call_of S.files S.read_faults S.write_faults O.pushed O.faults
+        (map string_bytes words.now) shelf.old shelf.new out.old out.new in
         result ≡ 10 → HasNoPlan call }
-    ensures spent { let call = (call_of (map string_bytes words.now)
-        (shelf_of (S.files shelf.old) (S.read_faults shelf.old) (S.write_faults shelf.old))
-        (shelf_of (S.files shelf.new) (S.read_faults shelf.new) (S.write_faults shelf.new))
-        (sink_of (O.pushed out.old) (O.faults out.old)) (sink_of (O.pushed out.new) (O.faults out.new))) in
+    ensures spent { let call = call_of S.files S.read_faults S.write_faults O.pushed O.faults
+        (map string_bytes words.now) shelf.old shelf.new out.old out.new in
         result ≡ 11 → IsBudgetSpent call }
     ensures later { O.faults out.old ≤ O.faults out.new }
 {

@@ -24,7 +24,8 @@ pub fn counters_of(
 ) -> Result<Option<Counters>, AllocError>
     requires domain_written { IsDomain domain.now }
     requires problem_written { IsProblem problem.now }
-    ensures found { IfOk result (λ found. IfSome found (λ c. (c ≡ counters_of domain.now problem.now) × IsFirstForm domain.now problem.now)) }
+    ensures found { IfOk result (λ found. IfSome found (λ c.
+        (c ≡ counters_of domain.now problem.now) × IsFirstForm domain.now problem.now)) }
     ensures none { IfOk result (λ found. IfNone found (IsFirstForm domain.now problem.now → ⊥)) }
 {
     let names = Names::new(alloc, domain, problem)?;

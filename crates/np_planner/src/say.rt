@@ -8,7 +8,9 @@ use std::alloc::Global;
 
 /// Pushes an answer, and gives the status to end with.
 pub fn say<O: Sink>(alloc: Global, answer: &Answer, out: &mut O) -> u8
-    ensures said { IsSaid answer.now (sink_of (O.pushed out.old) (O.faults out.old)) (sink_of (O.pushed out.new) (O.faults out.new)) result }
+    ensures said { IsSaid answer.now
+        (sink_of O.pushed O.faults out.old)
+        (sink_of O.pushed O.faults out.new) result }
     ensures later { O.faults out.old ≤ O.faults out.new }
 {
     match answer.text(alloc) {
@@ -19,7 +21,9 @@ pub fn say<O: Sink>(alloc: Global, answer: &Answer, out: &mut O) -> u8
 
 /// Pushes a text that goes with a status, and gives the status to end with.
 fn push<O: Sink>(text: &[u8], status: u8, out: &mut O) -> u8
-    ensures given { IsGiven text.now status (sink_of (O.pushed out.old) (O.faults out.old)) (sink_of (O.pushed out.new) (O.faults out.new)) result }
+    ensures given { IsGiven text.now status
+        (sink_of O.pushed O.faults out.old)
+        (sink_of O.pushed O.faults out.new) result }
     ensures later { O.faults out.old ≤ O.faults out.new }
 {
     match out.push(text) {

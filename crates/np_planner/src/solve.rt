@@ -94,10 +94,15 @@ fn work(alloc: Global, domain: &[u8], problem: &[u8], nodes: u32) -> Result<Outc
 
 /// The bytes of a domain or a problem, or the answer where it can't be had.
 fn read<S: Shelf>(alloc: Global, shelf: &mut S, name: &str, file: File) -> Result<Vec<u8>, Answer>
-    ensures unwritten { IsUnwritten (shelf_of (S.files shelf.old) (S.read_faults shelf.old) (S.write_faults shelf.old)) (shelf_of (S.files shelf.new) (S.read_faults shelf.new) (S.write_faults shelf.new)) }
+    ensures unwritten { IsUnwritten
+        (shelf_of S.files S.read_faults S.write_faults shelf.old)
+        (shelf_of S.files S.read_faults S.write_faults shelf.new) }
     ensures reads { OnlyAt name.now (S.read_faults shelf.old) (S.read_faults shelf.new) }
-    ensures read { IfOk result (λ bytes. IsRead (shelf_of (S.files shelf.old) (S.read_faults shelf.old) (S.write_faults shelf.old)) name.now bytes.items) }
-    ensures refused { IfErr result (IsUnread file name.now (shelf_of (S.files shelf.old) (S.read_faults shelf.old) (S.write_faults shelf.old)) (shelf_of (S.files shelf.new) (S.read_faults shelf.new) (S.write_faults shelf.new))) }
+    ensures read { IfOk result (λ bytes. IsRead
+        (shelf_of S.files S.read_faults S.write_faults shelf.old) name.now bytes.items) }
+    ensures refused { IfErr result (IsUnread file name.now
+        (shelf_of S.files S.read_faults S.write_faults shelf.old)
+        (shelf_of S.files S.read_faults S.write_faults shelf.new)) }
 {
     match shelf.fetch(alloc, name, MOST_BYTES) {
         Ok(bytes) => Ok(bytes),
@@ -113,10 +118,15 @@ fn read_both<S: Shelf>(
     command: &Solve<'_>,
     shelf: &mut S,
 ) -> Result<(Vec<u8>, Vec<u8>), Answer>
-    ensures unwritten { IsUnwritten (shelf_of (S.files shelf.old) (S.read_faults shelf.old) (S.write_faults shelf.old)) (shelf_of (S.files shelf.new) (S.read_faults shelf.new) (S.write_faults shelf.new)) }
+    ensures unwritten { IsUnwritten
+        (shelf_of S.files S.read_faults S.write_faults shelf.old)
+        (shelf_of S.files S.read_faults S.write_faults shelf.new) }
     ensures reads { ReadsOnly (told command.now) (S.read_faults shelf.old) (S.read_faults shelf.new) }
-    ensures read { IfOk result (λ files. AreRead (told command.now) (shelf_of (S.files shelf.old) (S.read_faults shelf.old) (S.write_faults shelf.old)) files.0.items files.1.items) }
-    ensures refused { IfErr result (IsRight (told command.now) (shelf_of (S.files shelf.old) (S.read_faults shelf.old) (S.write_faults shelf.old)) (shelf_of (S.files shelf.new) (S.read_faults shelf.new) (S.write_faults shelf.new))) }
+    ensures read { IfOk result (λ files. AreRead (told command.now)
+        (shelf_of S.files S.read_faults S.write_faults shelf.old) files.0.items files.1.items) }
+    ensures refused { IfErr result (IsRight (told command.now)
+        (shelf_of S.files S.read_faults S.write_faults shelf.old)
+        (shelf_of S.files S.read_faults S.write_faults shelf.new)) }
 {
     let domain = match read(alloc, shelf, command.domain, File::Domain) {
         Ok(bytes) => bytes,
@@ -132,7 +142,9 @@ fn read_both<S: Shelf>(
 pub fn solve<S: Shelf>(alloc: Global, command: &Solve<'_>, shelf: &mut S) -> Answer
     requires some_nodes { 1 ≤ command.now.nodes }
     requires few_nodes { command.now.nodes ≤ 2 ^ 24 }
-    ensures right { IsRight (told command.now) (shelf_of (S.files shelf.old) (S.read_faults shelf.old) (S.write_faults shelf.old)) (shelf_of (S.files shelf.new) (S.read_faults shelf.new) (S.write_faults shelf.new)) result }
+    ensures right { IsRight (told command.now)
+        (shelf_of S.files S.read_faults S.write_faults shelf.old)
+        (shelf_of S.files S.read_faults S.write_faults shelf.new) result }
     ensures reads { ReadsOnly (told command.now) (S.read_faults shelf.old) (S.read_faults shelf.new) }
 {
     let (domain, problem) = match read_both(alloc, command, shelf) {
@@ -148,7 +160,9 @@ pub fn solve<S: Shelf>(alloc: Global, command: &Solve<'_>, shelf: &mut S) -> Ans
 
 /// Puts the plan, if there is one, and gives the answer.
 fn conclude<S: Shelf>(command: &Solve<'_>, outcome: Outcome, shelf: &mut S) -> Answer
-    ensures concludes { Concludes (told command.now) outcome (shelf_of (S.files shelf.old) (S.read_faults shelf.old) (S.write_faults shelf.old)) (shelf_of (S.files shelf.new) (S.read_faults shelf.new) (S.write_faults shelf.new)) result }
+    ensures concludes { Concludes (told command.now) outcome
+        (shelf_of S.files S.read_faults S.write_faults shelf.old)
+        (shelf_of S.files S.read_faults S.write_faults shelf.new) result }
     ensures reads { S.read_faults shelf.new ≡ S.read_faults shelf.old }
 {
     match outcome {
@@ -160,7 +174,9 @@ fn conclude<S: Shelf>(command: &Solve<'_>, outcome: Outcome, shelf: &mut S) -> A
 
 /// Puts a cheapest plan of this cost.
 fn put_plan<S: Shelf>(shelf: &mut S, name: &str, text: &[u8], cost: usize) -> Answer
-    ensures put { IsPut name.now text.now cost (shelf_of (S.files shelf.old) (S.read_faults shelf.old) (S.write_faults shelf.old)) (shelf_of (S.files shelf.new) (S.read_faults shelf.new) (S.write_faults shelf.new)) result }
+    ensures put { IsPut name.now text.now cost
+        (shelf_of S.files S.read_faults S.write_faults shelf.old)
+        (shelf_of S.files S.read_faults S.write_faults shelf.new) result }
     ensures reads { S.read_faults shelf.new ≡ S.read_faults shelf.old }
 {
     match shelf.put(name, text) {

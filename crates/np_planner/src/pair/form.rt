@@ -30,7 +30,10 @@ pub fn is_first_form(names: &Names, domain: &Domain, problem: &Problem) -> bool
 
 /// Whether the functions, the actions and the tests are within the limits.
 fn are_few(domain: &Domain, problem: &Problem) -> bool
-    ensures { IsTrue result ↔ ((length domain.now.functions ≤ 1000) × (length domain.now.actions ≤ 1000) × (length (tested domain.now problem.now) ≤ 10000)) }
+    ensures { IsTrue result ↔ (
+        (length domain.now.functions ≤ 1000)
+        × (length domain.now.actions ≤ 1000)
+        × (length (tested domain.now problem.now) ≤ 10000)) }
 {
     domain.functions.len() <= MAX_FUNCTIONS
         && domain.actions.len() <= MAX_ACTIONS
@@ -55,7 +58,10 @@ fn has_few_tests(domain: &Domain, problem: &Problem) -> bool
 /// Whether no function is declared twice or has two values, and no two actions have one name.
 fn are_distinct(names: &Names, domain: &Domain, problem: &Problem) -> bool
     requires { AreNamesOf domain.now problem.now names.now }
-    ensures { IsTrue result ↔ (IsDistinct bytes_eq domain.now.functions × IsDistinct bytes_eq (action_names domain.now) × IsDistinct bytes_eq (valued problem.now)) }
+    ensures { IsTrue result ↔ (
+        IsDistinct bytes_eq domain.now.functions
+        × IsDistinct bytes_eq (action_names domain.now)
+        × IsDistinct bytes_eq (valued problem.now)) }
 {
     holds_all(&names.functions, domain.functions.len())
         && holds_all(&names.actions, domain.actions.len())
@@ -65,7 +71,10 @@ fn are_distinct(names: &Names, domain: &Domain, problem: &Problem) -> bool
 /// Whether each function with a value, in an effect or in a test is declared.
 fn are_declared(names: &Names, domain: &Domain, problem: &Problem) -> bool
     requires { AreNamesOf domain.now problem.now names.now }
-    ensures { IsTrue result ↔ (All (Contains domain.now.functions) (valued problem.now) × All (Contains domain.now.functions) (affected domain.now) × All (Contains domain.now.functions) (tested domain.now problem.now)) }
+    ensures { IsTrue result ↔ (
+        All (Contains domain.now.functions) (valued problem.now)
+        × All (Contains domain.now.functions) (affected domain.now)
+        × All (Contains domain.now.functions) (tested domain.now problem.now)) }
 {
     covers(&names.functions, &names.valued)
         && covers(&names.functions, &names.affected)
@@ -75,7 +84,10 @@ fn are_declared(names: &Names, domain: &Domain, problem: &Problem) -> bool
 /// Whether each function that is declared has a value, and is in an effect and in a test.
 fn are_used(names: &Names, domain: &Domain, problem: &Problem) -> bool
     requires { AreNamesOf domain.now problem.now names.now }
-    ensures { IsTrue result ↔ (All (Contains (valued problem.now)) domain.now.functions × All (Contains (affected domain.now)) domain.now.functions × All (Contains (tested domain.now problem.now)) domain.now.functions) }
+    ensures { IsTrue result ↔ (
+        All (Contains (valued problem.now)) domain.now.functions
+        × All (Contains (affected domain.now)) domain.now.functions
+        × All (Contains (tested domain.now problem.now)) domain.now.functions) }
 {
     covers(&names.valued, &names.functions)
         && covers(&names.affected, &names.functions)
@@ -84,14 +96,16 @@ fn are_used(names: &Names, domain: &Domain, problem: &Problem) -> bool
 
 /// Whether these are all of so many names, which are then different.
 fn holds_all(names: &IndexSet<Name>, count: usize) -> bool
-    ensures { (all : List (List ℕ)) → names.now.keys ≡ each_once all → count ≡ length all → IsTrue result ↔ IsDistinct bytes_eq all }
+    ensures { (all : List (List ℕ)) → names.now.keys ≡ each_once all → count ≡ length all →
+        IsTrue result ↔ IsDistinct bytes_eq all }
 {
     names.len() == count
 }
 
 /// Whether each of the others is among the names.
 fn covers(names: &IndexSet<Name>, others: &IndexSet<Name>) -> bool
-    ensures { (all more : List (List ℕ)) → names.now.keys ≡ each_once all → others.now.keys ≡ each_once more → IsTrue result ↔ All (Contains all) more }
+    ensures { (all more : List (List ℕ)) → names.now.keys ≡ each_once all → others.now.keys ≡ each_once more →
+        IsTrue result ↔ All (Contains all) more }
 {
     others.is_subset(names)
 }

@@ -106,7 +106,8 @@ fn each_once<N: Named>(alloc: Global, items: &[N]) -> Result<IndexSet<Name>, All
 
 /// The functions in a test of one of the actions.
 fn tested_of(alloc: Global, actions: &[Action]) -> Result<IndexSet<Name>, AllocError>
-    ensures { IfOk result (λ names. names.keys ≡ insert_all bytes_eq [] (flat_map (λ a. map (λ t. t.function) a.tests) actions.now)) }
+    ensures { IfOk result (λ names. names.keys ≡
+        insert_all bytes_eq [] (flat_map (λ a. map (λ t. t.function) a.tests) actions.now)) }
 {
     let mut names = IndexSet::new(alloc);
     for action in actions {
@@ -117,7 +118,8 @@ fn tested_of(alloc: Global, actions: &[Action]) -> Result<IndexSet<Name>, AllocE
 
 /// The functions that an effect of one of the actions changes.
 fn affected_of(alloc: Global, actions: &[Action]) -> Result<IndexSet<Name>, AllocError>
-    ensures { IfOk result (λ names. names.keys ≡ insert_all bytes_eq [] (flat_map (λ a. map (λ e. e.function) a.effects) actions.now)) }
+    ensures { IfOk result (λ names. names.keys ≡
+        insert_all bytes_eq [] (flat_map (λ a. map (λ e. e.function) a.effects) actions.now)) }
 {
     let mut names = IndexSet::new(alloc);
     for action in actions {
@@ -132,7 +134,8 @@ fn add_all<N: Named>(
     names: &mut IndexSet<Name>,
     items: &[N],
 ) -> Result<(), AllocError>
-    ensures { OnOk result (names.new.keys ≡ insert_all bytes_eq names.old.keys (map N.name_of items.now)) }
+    ensures { OnOk result (names.new.keys ≡
+        insert_all bytes_eq names.old.keys (map N.name_of items.now)) }
 {
     for item in items {
         add(alloc, names, item.name())?;

@@ -75,7 +75,8 @@ pub fn expect<'a>(lexer: Lexer<'a>, kind: Kind, text: &[u8]) -> Result<Lexer<'a>
 
 /// Reads an opening bracket and this word behind it.
 pub fn open<'a>(lexer: Lexer<'a>, kind: Kind, text: &[u8]) -> Result<Lexer<'a>, Refusal>
-    ensures { Gives (λ l. (tt, pieces_left l)) result (steps.open_with (record { kind = kind; text = text.now }) (pieces_left lexer.entry)) }
+    ensures { Gives (λ l. (tt, pieces_left l)) result
+        (steps.open_with (record { kind = kind; text = text.now }) (pieces_left lexer.entry)) }
 {
     let lexer = left(lexer)?;
     expect(lexer, kind, text)
