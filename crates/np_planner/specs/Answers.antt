@@ -146,10 +146,10 @@ pub record WasSpent (command : Solve) (nodes bound : ℕ) (old new : Shelf) : Ty
 -- whether an answer to `solve` is right, by what the shelf was before and is afterwards
 abbrev pub IsRight : Solve → Shelf → Shelf → Answer → Type 0
 IsRight command old new Usage = ⊥
-IsRight command old new (CannotRead Domain) = ReadFailed command.domain old new
+IsRight command old new (CannotRead Domain) = ReadFailed command.domain old new × OnlyAt command.domain old.read_faults new.read_faults
 IsRight command old new (CannotRead Problem) = ReadFailed command.problem old new × WasRead old command.domain
 IsRight command old new (CannotRead Plan) = ⊥
-IsRight command old new (TooLong Domain) = WasTooLong command.domain old new
+IsRight command old new (TooLong Domain) = WasTooLong command.domain old new × OnlyAt command.domain old.read_faults new.read_faults
 IsRight command old new (TooLong Problem) = WasTooLong command.problem old new × WasRead old command.domain
 IsRight command old new (TooLong Plan) = ⊥
 IsRight command old new NotBuilt = IsUnwritten old new × HaveNoPair command old
@@ -175,7 +175,7 @@ IsAnswer (Some command) old new answer = IsRight command old new answer × Reads
 abbrev pub IsUnread : File → List ℕ → Shelf → Shelf → Answer → Type 0
 IsUnread file name old new (CannotRead f) = (f ≡ file) × ReadFailed name old new
 IsUnread file name old new (TooLong f) = (f ≡ file) × WasTooLong name old new
-IsUnread file name old new OutOfMemory = Unit {0}
+IsUnread file name old new OutOfMemory = new.read_faults ≡ old.read_faults
 IsUnread file name old new Usage = ⊥
 IsUnread file name old new NotBuilt = ⊥
 IsUnread file name old new (Optimal cost) = ⊥
