@@ -1,162 +1,284 @@
 -- From a right answer that is said to what each status promises.
-use Rattle.std.proofs.Common.{◌≡◌, ℕ, ◌⊎◌, inl, inr, Option, Some, None, refl, sym, ap, ◌∙◌, subst, arith}
+use Rattle.std.proofs.Common.{◌≡◌, ℕ, ◌⊎◌, inl, inr, Option, Some, None, refl, sym, ap, ◌∙◌, subst, arith, Bool, true, false, true≢false}
 use Rattle.np_planner.specs.declared.answer.Answer.{Answer}
-use Rattle.np_planner.specs.declared.answer.Answer.TheVariants.{Usage, CannotRead, TooLong, NotBuilt, Optimal, Unsolvable, Spent, CannotWrite, OutOfMemory}
-use Rattle.np_planner.specs.Words.{Solve, solve_of}
+use Rattle.np_planner.specs.declared.answer.Answer.TheVariants.{Usage, CannotRead, TooLong, NotBuilt, Optimal, Unsolvable, Spent, Yes, ProofFails, Repeats, Unjustified, ClaimAbove, CannotWrite, OutOfMemory}
+use Rattle.np_planner.specs.Words.{Solve, Check, Command, solving, checking, command_of}
 use Rattle.np_planner.specs.Answer.{text_of, status_of}
-use Rattle.np_planner.specs.Answers.{IsAnswer, IsRight, ReadsOnly, WasSpent}
+use Rattle.np_planner.specs.Answers.{IsRight, ReadsOnly, WasSpent}
+use Rattle.np_planner.specs.Checked.{IsRightCheck, ChecksOnly}
 use Rattle.np_planner.specs.Said.{IsSaid, IsCut, IsUnsaid}
-use Rattle.np_planner.specs.Promises.{Call, Says, IsAnswered, IsOptimal, HasNoPlan, IsBudgetSpent, IsUsage, IsRefused, IsUnwritten, IsOutOfMemory, Promise}
+use Rattle.np_planner.proofs.Apart.{AreApart, solving_apart}
+use Rattle.np_planner.proofs.Checkable.{solved_checkable, unsolvable_checkable, spent_checkable}
+use Rattle.np_planner.proofs.Coming.{comes}
+use Rattle.np_planner.specs.Promises.{Call, Says, IsAnswer, IsRightTo, IsAnswered, IsOptimal, HasNoPlan, IsBudgetSpent, IsYes, IsNo, IsUsage, IsRefused, HadWriteFault, IsOutOfMemory, WhenSolving, WhenChecking, Promise, optimal, agreed, usage, refused, unread, unwritten, denied, memory, unsolvable, spent, KeepsItsWord}
 
-module _ (call : Call) (status : ℕ) where
-  is_0 : status ≡ 0 → IsOptimal call → Promise call status
-  is_0 e p = inl (e, p)
+-- the words of one command are those of no other
+abbrev solve_in : Option Command → Solve → Solve
+solve_in (Some (solving command)) other = command
+solve_in o other = other
 
-  is_2 : status ≡ 2 → IsUsage call → Promise call status
-  is_2 e p = inr (inl (e, p))
+abbrev check_in : Option Command → Check → Check
+check_in (Some (checking command)) other = command
+check_in o other = other
 
-  is_3 : status ≡ 3 → IsRefused call 3 → Promise call status
-  is_3 e p = inr (inr (inl (e, p)))
+abbrev is_solving : Option Command → Bool
+is_solving (Some (solving command)) = true
+is_solving o = false
 
-  is_4 : status ≡ 4 → IsRefused call 4 → Promise call status
-  is_4 e p = inr (inr (inr (inl (e, p))))
+same_solve : (a b : Solve) → Some (solving a) ≡ Some (solving b) → a ≡ b
+same_solve a b e = ap (λ o. solve_in o a) e
 
-  is_5 : status ≡ 5 → IsUnwritten call → Promise call status
-  is_5 e p = inr (inr (inr (inr (inl (e, p)))))
+same_check : (a b : Check) → Some (checking a) ≡ Some (checking b) → a ≡ b
+same_check a b e = ap (λ o. check_in o a) e
 
-  is_7 : status ≡ 7 → IsOutOfMemory call → Promise call status
-  is_7 e p = inr (inr (inr (inr (inr (inl (e, p))))))
+apart : (a : Solve) (b : Check) → Some (solving a) ≡ Some (checking b) → ⊥
+apart a b e = true≢false (ap is_solving e)
 
-  is_10 : status ≡ 10 → HasNoPlan call → Promise call status
-  is_10 e p = inr (inr (inr (inr (inr (inr (inl (e, p)))))))
+module _ (call : Call) where
+  refusal : (command : Command) → command_of call.words ≡ Some command → (answer : Answer) (s : ℕ) → status_of answer ≡ s → Says call answer → IsRightTo command call.before call.after answer → IsRefused call s
+  refusal command words_are answer s own says right = record { command = command; words_are = words_are; answer = answer; own_status = own; says = says; right = right }
 
-  is_11 : status ≡ 11 → IsBudgetSpent call → Promise call status
-  is_11 e p = inr (inr (inr (inr (inr (inr (inr (e, p)))))))
+  forgot : (command : Command) → command_of call.words ≡ Some command → Says call OutOfMemory → IsRightTo command call.before call.after OutOfMemory → Promise call 7
+  forgot command words_are says right =
+      memory (record { answer = OutOfMemory; right = subst (λ (o : Option Command). IsAnswer o call.before call.after OutOfMemory) (sym words_are) right; says = inr says })
 
-  module _ (command : Solve) (words_are : solve_of call.words ≡ Some command) where
-    refused : (answer : Answer) (s : ℕ) → status_of answer ≡ s → Says call answer → IsRight command call.before call.after answer → ReadsOnly command call.before.read_faults call.after.read_faults → IsRefused call s
-    refused answer s own says right reads = record { command = command; words_are = words_are; answer = answer; own_status = own; says = says; right = right; reads = reads }
+  module _ (command : Solve) (words_are : command_of call.words ≡ Some (solving command)) where
+    apart_names : AreApart command
+    apart_names = solving_apart call.words command words_are
+
+    when : {P : Solve → Type 0} → P command → WhenSolving call P
+    when p = record { command = command; words_are = words_are; holds = p }
 
     -- a right answer to the words of `solve` was said whole
-    solved : (answer : Answer) → status ≡ status_of answer → Says call answer → IsRight command call.before call.after answer → ReadsOnly command call.before.read_faults call.after.read_faults → Promise call status
-    solved Usage e says right reads = absurd right
-    solved (CannotRead f) e says right reads = is_4 e (refused (CannotRead f) 4 refl says right reads)
-    solved (TooLong f) e says right reads = is_3 e (refused (TooLong f) 3 refl says right reads)
-    solved NotBuilt e says right reads = is_3 e (refused NotBuilt 3 refl says right reads)
-    solved (Optimal cost) e says right reads = is_0 e (record { command = command; words_are = words_are; cost = cost; says = says; solved = right; reads = reads })
-    solved Unsolvable e says right reads = is_10 e (record { command = command; words_are = words_are; says = says; unsolvable = right; reads = reads })
-    solved (Spent nodes bound) e says right reads = is_11 e (record {
-      command = command;
-      words_are = words_are;
+    solved : (answer : Answer) → Says call answer → IsRight command call.before call.after answer → ReadsOnly command.inputs call.before.read_faults call.after.read_faults → Promise call (status_of answer)
+    solved Usage says right reads = absurd right
+    solved (CannotRead f) says right reads = unread (refusal (solving command) words_are (CannotRead f) 4 refl says (right, reads))
+    solved (TooLong f) says right reads = refused (refusal (solving command) words_are (TooLong f) 3 refl says (right, reads))
+    solved NotBuilt says right reads = refused (refusal (solving command) words_are NotBuilt 3 refl says (right, reads))
+    solved (Optimal cost) says right reads = optimal (when (record { cost = cost; says = says; solved = right; checkable = solved_checkable command apart_names call.before call.after cost right; reads = reads }))
+    solved Unsolvable says right reads = unsolvable (when (record { says = says; unsolvable = right; checkable = unsolvable_checkable command apart_names call.before call.after right; reads = reads }))
+    solved (Spent nodes bound) says right reads = spent (when (record {
       bound = bound;
       says = subst (λ (n : ℕ). Says call (Spent n bound)) right.budget says;
       spent = subst (λ (n : ℕ). WasSpent command n bound call.before call.after) right.budget right;
+      checkable = spent_checkable command apart_names call.before call.after nodes bound right;
       reads = reads;
-    })
-    solved (CannotWrite f) e says right reads = is_5 e (inl (refused (CannotWrite f) 5 refl says right reads))
-    solved OutOfMemory e says right reads = is_7 e (record { answer = OutOfMemory; right = subst (λ (o : Option Solve). IsAnswer o call.before call.after OutOfMemory) (sym words_are) (right, reads); says = inr says })
+    }))
+    solved (Yes claim) says right reads = absurd right
+    solved (ProofFails proof) says right reads = absurd right
+    solved (Repeats entry) says right reads = absurd right
+    solved (Unjustified entry) says right reads = absurd right
+    solved ClaimAbove says right reads = absurd right
+    solved (CannotWrite f) says right reads = unwritten (inl (refusal (solving command) words_are (CannotWrite f) 5 refl says (right, reads)))
+    solved OutOfMemory says right reads = forgot (solving command) words_are says (right, reads)
+
+  module _ (command : Check) (words_are : command_of call.words ≡ Some (checking command)) where
+    when_checking : {P : Check → Type 0} → P command → WhenChecking call P
+    when_checking p = record { command = command; words_are = words_are; holds = p }
+
+    said_no : (answer : Answer) → status_of answer ≡ 6 → Says call answer → IsRightCheck command call.before call.after answer → ChecksOnly command call.before.read_faults call.after.read_faults → Promise call 6
+    said_no answer own says right reads = denied (when_checking (record { answer = answer; own_status = own; says = says; right = right; reads = reads }))
+
+    -- a right answer to the words of `check` was said whole
+    checked : (answer : Answer) → Says call answer → IsRightCheck command call.before call.after answer → ChecksOnly command call.before.read_faults call.after.read_faults → Promise call (status_of answer)
+    checked Usage says right reads = absurd right
+    checked (CannotRead f) says right reads = unread (refusal (checking command) words_are (CannotRead f) 4 refl says (right, reads))
+    checked (TooLong f) says right reads = refused (refusal (checking command) words_are (TooLong f) 3 refl says (right, reads))
+    checked NotBuilt says right reads = refused (refusal (checking command) words_are NotBuilt 3 refl says (right, reads))
+    checked (Optimal cost) says right reads = absurd right
+    checked Unsolvable says right reads = absurd right
+    checked (Spent nodes bound) says right reads = absurd right
+    checked (Yes claim) says right reads = agreed (when_checking (record { claim = claim; says = says; yes = right; reads = reads }))
+    checked (ProofFails proof) says right reads = said_no (ProofFails proof) refl says right reads
+    checked (Repeats entry) says right reads = said_no (Repeats entry) refl says right reads
+    checked (Unjustified entry) says right reads = said_no (Unjustified entry) refl says right reads
+    checked ClaimAbove says right reads = said_no ClaimAbove refl says right reads
+    checked (CannotWrite f) says right reads = absurd right
+    checked OutOfMemory says right reads = forgot (checking command) words_are says (right, reads)
 
   -- a right answer was said whole
-  whole : (answer : Answer) → status ≡ status_of answer → Says call answer → (o : Option Solve) → solve_of call.words ≡ o → IsAnswer o call.before call.after answer → Promise call status
-  whole answer e says None words_are right =
-      is_2 (e ∙ ap status_of right.0) (record { no_command = words_are; says = subst (λ (a : Answer). Says call a) right.0 says; untouched = right.1 })
-  whole answer e says (Some command) words_are right = solved command words_are answer e says right.0 right.1
+  whole : (answer : Answer) → Says call answer → (o : Option Command) → command_of call.words ≡ o → IsAnswer o call.before call.after answer → Promise call (status_of answer)
+  whole answer says None words_are right =
+      subst (λ (a : Answer). Promise call (status_of a)) (sym right.0)
+      (usage (record { no_command = words_are; says = subst (λ (a : Answer). Says call a) right.0 says; untouched = right.1 }))
+  whole answer says (Some (solving command)) words_are right = solved command words_are answer says right.0 right.1
+  whole answer says (Some (checking command)) words_are right = checked command words_are answer says right.0 right.1
 
-  module _ (answer : Answer) (right : IsAnswer (solve_of call.words) call.before call.after answer) where
+  module _ (status : ℕ) (answer : Answer) (right : IsAnswer (command_of call.words) call.before call.after answer) where
     cut : (said : Answer) → (said ≡ answer) ⊎ (said ≡ OutOfMemory) → IsCut (text_of said) call.out_before call.out_after status → Promise call status
-    cut said one c = is_5 c.write_status (inr (record { answer = answer; right = right; said = said; one_of = one; prefix = c.prefix; rose = c.rose }))
+    cut said one c = subst (Promise call) (sym c.write_status) (unwritten (inr (record { answer = answer; right = right; said = said; one_of = one; prefix = c.prefix; rose = c.rose })))
 
     unsaid : IsUnsaid call.out_before call.out_after status → Promise call status
-    unsaid u = is_7 u.memory_status (record { answer = answer; right = right; says = inl u.nothing })
+    unsaid u = subst (Promise call) (sym u.memory_status) (memory (record { answer = answer; right = right; says = inl u.nothing }))
 
     given : IsSaid answer call.out_before call.out_after status → Promise call status
-    given (inl (inl p)) = whole answer p.own_status p.whole (solve_of call.words) refl right
+    given (inl (inl p)) = subst (Promise call) (sym p.own_status) (whole answer p.whole (command_of call.words) refl right)
     given (inl (inr (inl c))) = cut answer (inl refl) c
     given (inl (inr (inr u))) = unsaid u
-    given (inr (inl p)) = is_7 p.own_status (record { answer = answer; right = right; says = inr p.whole })
+    given (inr (inl p)) = subst (Promise call) (sym p.own_status) (memory (record { answer = answer; right = right; says = inr p.whole }))
     given (inr (inr (inl c))) = cut OutOfMemory (inr refl) c
     given (inr (inr (inr u))) = unsaid u
 
-  pub promise_of : IsAnswered call status → Promise call status
-  promise_of a = given a.answer a.right a.said
+  pub promise_of : (status : ℕ) → IsAnswered call status → Promise call status
+  promise_of status a = given status a.answer a.right a.said
 
-  -- what one status promises
-  pub optimal_of : Promise call status → status ≡ 0 → IsOptimal call
-  optimal_of (inl p) e = p.1
-  optimal_of (inr (inl p)) e = absurd (omega (arith, p.0))
-  optimal_of (inr (inr (inl p))) e = absurd (omega (arith, p.0))
-  optimal_of (inr (inr (inr (inl p)))) e = absurd (omega (arith, p.0))
-  optimal_of (inr (inr (inr (inr (inl p))))) e = absurd (omega (arith, p.0))
-  optimal_of (inr (inr (inr (inr (inr (inl p)))))) e = absurd (omega (arith, p.0))
-  optimal_of (inr (inr (inr (inr (inr (inr (inl p))))))) e = absurd (omega (arith, p.0))
-  optimal_of (inr (inr (inr (inr (inr (inr (inr p))))))) e = absurd (omega (arith, p.0))
+  module _ (status : ℕ) (answered : IsAnswered call status) where
+    -- what one status promises
+    pub usage_of : status ≡ 2 → IsUsage call
+    usage_of e = from (promise_of status answered) e
+      where
+        from : {s : ℕ} → Promise call s → s ≡ 2 → IsUsage call
+        from (optimal p) e = absurd (omega (arith, e))
+        from (agreed p) e = absurd (omega (arith, e))
+        from (usage p) e = p
+        from (refused p) e = absurd (omega (arith, e))
+        from (unread p) e = absurd (omega (arith, e))
+        from (unwritten p) e = absurd (omega (arith, e))
+        from (denied p) e = absurd (omega (arith, e))
+        from (memory p) e = absurd (omega (arith, e))
+        from (unsolvable p) e = absurd (omega (arith, e))
+        from (spent p) e = absurd (omega (arith, e))
 
-  pub usage_of : Promise call status → status ≡ 2 → IsUsage call
-  usage_of (inl p) e = absurd (omega (arith, p.0))
-  usage_of (inr (inl p)) e = p.1
-  usage_of (inr (inr (inl p))) e = absurd (omega (arith, p.0))
-  usage_of (inr (inr (inr (inl p)))) e = absurd (omega (arith, p.0))
-  usage_of (inr (inr (inr (inr (inl p))))) e = absurd (omega (arith, p.0))
-  usage_of (inr (inr (inr (inr (inr (inl p)))))) e = absurd (omega (arith, p.0))
-  usage_of (inr (inr (inr (inr (inr (inr (inl p))))))) e = absurd (omega (arith, p.0))
-  usage_of (inr (inr (inr (inr (inr (inr (inr p))))))) e = absurd (omega (arith, p.0))
+    pub refused_of : status ≡ 3 → IsRefused call 3
+    refused_of e = from (promise_of status answered) e
+      where
+        from : {s : ℕ} → Promise call s → s ≡ 3 → IsRefused call 3
+        from (optimal p) e = absurd (omega (arith, e))
+        from (agreed p) e = absurd (omega (arith, e))
+        from (usage p) e = absurd (omega (arith, e))
+        from (refused p) e = p
+        from (unread p) e = absurd (omega (arith, e))
+        from (unwritten p) e = absurd (omega (arith, e))
+        from (denied p) e = absurd (omega (arith, e))
+        from (memory p) e = absurd (omega (arith, e))
+        from (unsolvable p) e = absurd (omega (arith, e))
+        from (spent p) e = absurd (omega (arith, e))
 
-  pub refused_of : Promise call status → status ≡ 3 → IsRefused call 3
-  refused_of (inl p) e = absurd (omega (arith, p.0))
-  refused_of (inr (inl p)) e = absurd (omega (arith, p.0))
-  refused_of (inr (inr (inl p))) e = p.1
-  refused_of (inr (inr (inr (inl p)))) e = absurd (omega (arith, p.0))
-  refused_of (inr (inr (inr (inr (inl p))))) e = absurd (omega (arith, p.0))
-  refused_of (inr (inr (inr (inr (inr (inl p)))))) e = absurd (omega (arith, p.0))
-  refused_of (inr (inr (inr (inr (inr (inr (inl p))))))) e = absurd (omega (arith, p.0))
-  refused_of (inr (inr (inr (inr (inr (inr (inr p))))))) e = absurd (omega (arith, p.0))
+    pub unread_of : status ≡ 4 → IsRefused call 4
+    unread_of e = from (promise_of status answered) e
+      where
+        from : {s : ℕ} → Promise call s → s ≡ 4 → IsRefused call 4
+        from (optimal p) e = absurd (omega (arith, e))
+        from (agreed p) e = absurd (omega (arith, e))
+        from (usage p) e = absurd (omega (arith, e))
+        from (refused p) e = absurd (omega (arith, e))
+        from (unread p) e = p
+        from (unwritten p) e = absurd (omega (arith, e))
+        from (denied p) e = absurd (omega (arith, e))
+        from (memory p) e = absurd (omega (arith, e))
+        from (unsolvable p) e = absurd (omega (arith, e))
+        from (spent p) e = absurd (omega (arith, e))
 
-  pub unread_of : Promise call status → status ≡ 4 → IsRefused call 4
-  unread_of (inl p) e = absurd (omega (arith, p.0))
-  unread_of (inr (inl p)) e = absurd (omega (arith, p.0))
-  unread_of (inr (inr (inl p))) e = absurd (omega (arith, p.0))
-  unread_of (inr (inr (inr (inl p)))) e = p.1
-  unread_of (inr (inr (inr (inr (inl p))))) e = absurd (omega (arith, p.0))
-  unread_of (inr (inr (inr (inr (inr (inl p)))))) e = absurd (omega (arith, p.0))
-  unread_of (inr (inr (inr (inr (inr (inr (inl p))))))) e = absurd (omega (arith, p.0))
-  unread_of (inr (inr (inr (inr (inr (inr (inr p))))))) e = absurd (omega (arith, p.0))
+    pub unwritten_of : status ≡ 5 → HadWriteFault call
+    unwritten_of e = from (promise_of status answered) e
+      where
+        from : {s : ℕ} → Promise call s → s ≡ 5 → HadWriteFault call
+        from (optimal p) e = absurd (omega (arith, e))
+        from (agreed p) e = absurd (omega (arith, e))
+        from (usage p) e = absurd (omega (arith, e))
+        from (refused p) e = absurd (omega (arith, e))
+        from (unread p) e = absurd (omega (arith, e))
+        from (unwritten p) e = p
+        from (denied p) e = absurd (omega (arith, e))
+        from (memory p) e = absurd (omega (arith, e))
+        from (unsolvable p) e = absurd (omega (arith, e))
+        from (spent p) e = absurd (omega (arith, e))
 
-  pub unwritten_of : Promise call status → status ≡ 5 → IsUnwritten call
-  unwritten_of (inl p) e = absurd (omega (arith, p.0))
-  unwritten_of (inr (inl p)) e = absurd (omega (arith, p.0))
-  unwritten_of (inr (inr (inl p))) e = absurd (omega (arith, p.0))
-  unwritten_of (inr (inr (inr (inl p)))) e = absurd (omega (arith, p.0))
-  unwritten_of (inr (inr (inr (inr (inl p))))) e = p.1
-  unwritten_of (inr (inr (inr (inr (inr (inl p)))))) e = absurd (omega (arith, p.0))
-  unwritten_of (inr (inr (inr (inr (inr (inr (inl p))))))) e = absurd (omega (arith, p.0))
-  unwritten_of (inr (inr (inr (inr (inr (inr (inr p))))))) e = absurd (omega (arith, p.0))
+    pub no_of : status ≡ 6 → WhenChecking call (IsNo call)
+    no_of e = from (promise_of status answered) e
+      where
+        from : {s : ℕ} → Promise call s → s ≡ 6 → WhenChecking call (IsNo call)
+        from (optimal p) e = absurd (omega (arith, e))
+        from (agreed p) e = absurd (omega (arith, e))
+        from (usage p) e = absurd (omega (arith, e))
+        from (refused p) e = absurd (omega (arith, e))
+        from (unread p) e = absurd (omega (arith, e))
+        from (unwritten p) e = absurd (omega (arith, e))
+        from (denied p) e = p
+        from (memory p) e = absurd (omega (arith, e))
+        from (unsolvable p) e = absurd (omega (arith, e))
+        from (spent p) e = absurd (omega (arith, e))
 
-  pub memory_of : Promise call status → status ≡ 7 → IsOutOfMemory call
-  memory_of (inl p) e = absurd (omega (arith, p.0))
-  memory_of (inr (inl p)) e = absurd (omega (arith, p.0))
-  memory_of (inr (inr (inl p))) e = absurd (omega (arith, p.0))
-  memory_of (inr (inr (inr (inl p)))) e = absurd (omega (arith, p.0))
-  memory_of (inr (inr (inr (inr (inl p))))) e = absurd (omega (arith, p.0))
-  memory_of (inr (inr (inr (inr (inr (inl p)))))) e = p.1
-  memory_of (inr (inr (inr (inr (inr (inr (inl p))))))) e = absurd (omega (arith, p.0))
-  memory_of (inr (inr (inr (inr (inr (inr (inr p))))))) e = absurd (omega (arith, p.0))
+    pub memory_of : status ≡ 7 → IsOutOfMemory call
+    memory_of e = from (promise_of status answered) e
+      where
+        from : {s : ℕ} → Promise call s → s ≡ 7 → IsOutOfMemory call
+        from (optimal p) e = absurd (omega (arith, e))
+        from (agreed p) e = absurd (omega (arith, e))
+        from (usage p) e = absurd (omega (arith, e))
+        from (refused p) e = absurd (omega (arith, e))
+        from (unread p) e = absurd (omega (arith, e))
+        from (unwritten p) e = absurd (omega (arith, e))
+        from (denied p) e = absurd (omega (arith, e))
+        from (memory p) e = p
+        from (unsolvable p) e = absurd (omega (arith, e))
+        from (spent p) e = absurd (omega (arith, e))
 
-  pub unsolvable_of : Promise call status → status ≡ 10 → HasNoPlan call
-  unsolvable_of (inl p) e = absurd (omega (arith, p.0))
-  unsolvable_of (inr (inl p)) e = absurd (omega (arith, p.0))
-  unsolvable_of (inr (inr (inl p))) e = absurd (omega (arith, p.0))
-  unsolvable_of (inr (inr (inr (inl p)))) e = absurd (omega (arith, p.0))
-  unsolvable_of (inr (inr (inr (inr (inl p))))) e = absurd (omega (arith, p.0))
-  unsolvable_of (inr (inr (inr (inr (inr (inl p)))))) e = absurd (omega (arith, p.0))
-  unsolvable_of (inr (inr (inr (inr (inr (inr (inl p))))))) e = p.1
-  unsolvable_of (inr (inr (inr (inr (inr (inr (inr p))))))) e = absurd (omega (arith, p.0))
+    pub unsolvable_of : status ≡ 10 → WhenSolving call (HasNoPlan call)
+    unsolvable_of e = from (promise_of status answered) e
+      where
+        from : {s : ℕ} → Promise call s → s ≡ 10 → WhenSolving call (HasNoPlan call)
+        from (optimal p) e = absurd (omega (arith, e))
+        from (agreed p) e = absurd (omega (arith, e))
+        from (usage p) e = absurd (omega (arith, e))
+        from (refused p) e = absurd (omega (arith, e))
+        from (unread p) e = absurd (omega (arith, e))
+        from (unwritten p) e = absurd (omega (arith, e))
+        from (denied p) e = absurd (omega (arith, e))
+        from (memory p) e = absurd (omega (arith, e))
+        from (unsolvable p) e = p
+        from (spent p) e = absurd (omega (arith, e))
 
-  pub spent_of : Promise call status → status ≡ 11 → IsBudgetSpent call
-  spent_of (inl p) e = absurd (omega (arith, p.0))
-  spent_of (inr (inl p)) e = absurd (omega (arith, p.0))
-  spent_of (inr (inr (inl p))) e = absurd (omega (arith, p.0))
-  spent_of (inr (inr (inr (inl p)))) e = absurd (omega (arith, p.0))
-  spent_of (inr (inr (inr (inr (inl p))))) e = absurd (omega (arith, p.0))
-  spent_of (inr (inr (inr (inr (inr (inl p)))))) e = absurd (omega (arith, p.0))
-  spent_of (inr (inr (inr (inr (inr (inr (inl p))))))) e = absurd (omega (arith, p.0))
-  spent_of (inr (inr (inr (inr (inr (inr (inr p))))))) e = p.1
+    pub spent_of : status ≡ 11 → WhenSolving call (IsBudgetSpent call)
+    spent_of e = from (promise_of status answered) e
+      where
+        from : {s : ℕ} → Promise call s → s ≡ 11 → WhenSolving call (IsBudgetSpent call)
+        from (optimal p) e = absurd (omega (arith, e))
+        from (agreed p) e = absurd (omega (arith, e))
+        from (usage p) e = absurd (omega (arith, e))
+        from (refused p) e = absurd (omega (arith, e))
+        from (unread p) e = absurd (omega (arith, e))
+        from (unwritten p) e = absurd (omega (arith, e))
+        from (denied p) e = absurd (omega (arith, e))
+        from (memory p) e = absurd (omega (arith, e))
+        from (unsolvable p) e = absurd (omega (arith, e))
+        from (spent p) e = p
+
+    pub optimal_of : (command : Solve) → command_of call.words ≡ Some (solving command) → status ≡ 0 → IsOptimal call command
+    optimal_of command words_are e = from (promise_of status answered) e
+      where
+        from : {s : ℕ} → Promise call s → s ≡ 0 → IsOptimal call command
+        from (optimal p) e = subst (IsOptimal call) (same_solve p.command command (sym p.words_are ∙ words_are)) p.holds
+        from (agreed p) e = absurd (apart command p.command (sym words_are ∙ p.words_are))
+        from (usage p) e = absurd (omega (arith, e))
+        from (refused p) e = absurd (omega (arith, e))
+        from (unread p) e = absurd (omega (arith, e))
+        from (unwritten p) e = absurd (omega (arith, e))
+        from (denied p) e = absurd (omega (arith, e))
+        from (memory p) e = absurd (omega (arith, e))
+        from (unsolvable p) e = absurd (omega (arith, e))
+        from (spent p) e = absurd (omega (arith, e))
+
+    pub yes_of : (command : Check) → command_of call.words ≡ Some (checking command) → status ≡ 0 → IsYes call command
+    yes_of command words_are e = from (promise_of status answered) e
+      where
+        from : {s : ℕ} → Promise call s → s ≡ 0 → IsYes call command
+        from (optimal p) e = absurd (apart p.command command (sym p.words_are ∙ words_are))
+        from (agreed p) e = subst (IsYes call) (same_check p.command command (sym p.words_are ∙ words_are)) p.holds
+        from (usage p) e = absurd (omega (arith, e))
+        from (refused p) e = absurd (omega (arith, e))
+        from (unread p) e = absurd (omega (arith, e))
+        from (unwritten p) e = absurd (omega (arith, e))
+        from (denied p) e = absurd (omega (arith, e))
+        from (memory p) e = absurd (omega (arith, e))
+        from (unsolvable p) e = absurd (omega (arith, e))
+        from (spent p) e = absurd (omega (arith, e))
+
+    pub word_of : KeepsItsWord call status
+    word_of = record {
+      optimal = optimal_of;
+      unsolvable = unsolvable_of;
+      spent = spent_of;
+      yes = yes_of;
+      yes_comes = comes call status answered;
+    }

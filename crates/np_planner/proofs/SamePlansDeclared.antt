@@ -13,15 +13,15 @@ use Rattle.np_planner.proofs.SamePlansPlaces.{place_below}
 use Rattle.np_planner.proofs.SamePlansGoal.{AreCounted}
 
 -- what holds of all of two lists holds of all of the first one
-All-left : {X : Type 0} (P : X → Type 0) (xs ys : List X) → All P (xs ++ ys) → All P xs
+pub All-left : {X : Type 0} (P : X → Type 0) (xs ys : List X) → All P (xs ++ ys) → All P xs
 All-left P xs ys all = λ k d l. subst P (get_or_append_left xs ys d k l) (all k d (omega (arith, length-append xs ys)))
 
 -- and of the second one
-All-right : {X : Type 0} (P : X → Type 0) (xs ys : List X) → All P (xs ++ ys) → All P ys
+pub All-right : {X : Type 0} (P : X → Type 0) (xs ys : List X) → All P (xs ++ ys) → All P ys
 All-right P xs ys all = λ k d l. subst P (get_or-append-add xs ys k d) (all (length xs + k) d (omega (arith, length-append xs ys)))
 
 -- what holds of all parts of all items holds of all parts of the one at n
-All-part : {X Y : Type 0} (P : Y → Type 0) (f : X → List Y) (xs : List X) (n : ℕ) (x : X) → All P (flat_map f xs) → slice_get xs n ≡ Some x → All P (f x)
+pub All-part : {X Y : Type 0} (P : Y → Type 0) (f : X → List Y) (xs : List X) (n : ℕ) (x : X) → All P (flat_map f xs) → slice_get xs n ≡ Some x → All P (f x)
 All-part P f [] n x all e = absurd (none-some x e)
 All-part P f (y ∷ ys) zero x all e = subst (λ z. All P (f z)) (same_Some y x e) (All-left P (f y) (flat_map f ys) all)
 All-part P f (y ∷ ys) (suc n) x all e = All-part P f ys n x (All-right P (f y) (flat_map f ys) all) e

@@ -42,27 +42,27 @@ size_below w written =
         zero_add k = omega arith
 
 -- a sign doesn't change the size
-abs_neg : (z : ℤ) → unsigned_abs (neg_ℤ z) ≡ unsigned_abs z
+pub abs_neg : (z : ℤ) → unsigned_abs (neg_ℤ z) ≡ unsigned_abs z
 abs_neg (pos zero) = refl
 abs_neg (pos (suc n)) = refl
 abs_neg (negsuc n) = refl
 
 -- so is its size with a sign
-number_below : (w : Whole) → IsWhole w → unsigned_abs (number_of w) < most
+pub number_below : (w : Whole) → IsWhole w → unsigned_abs (number_of w) < most
 number_below w written =
     cond_both w.negative (neg_ℤ (pos (size_of w.digits))) (pos (size_of w.digits)) (λ z. unsigned_abs z < most)
     (λ e. subst (λ (n : ℕ). n < most) (sym (abs_neg (pos (size_of w.digits)))) (size_below w written))
     (λ e. size_below w written)
 
 -- and what an effect adds
-amount_below : (e : Effect) → IsWhole e.amount → unsigned_abs (signed_amount e) < most
+pub amount_below : (e : Effect) → IsWhole e.amount → unsigned_abs (signed_amount e) < most
 amount_below e written =
     cond_both e.increases (number_of e.amount) (neg_ℤ (number_of e.amount)) (λ z. unsigned_abs z < most)
     (λ _. number_below e.amount written)
     (λ _. subst (λ (n : ℕ). n < most) (sym (abs_neg (number_of e.amount))) (number_below e.amount written))
 
 -- and a value at the start
-start_below : (vs : List Value) (x : List ℕ) → All IsValue vs → unsigned_abs (start_value vs x) < most
+pub start_below : (vs : List Value) (x : List ℕ) → All IsValue vs → unsigned_abs (start_value vs x) < most
 start_below [] x all = lit< tt
 start_below (v ∷ vs) x all =
     cond_both (bytes_eq v.function x) (number_of v.value) (start_value vs x) (λ z. unsigned_abs z < most)

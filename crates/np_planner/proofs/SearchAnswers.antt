@@ -1,21 +1,18 @@
 -- Why the answers of a search are true: no list of moves to the goal is shorter than what waits.
-use Rattle.std.proofs.Common.{◌≡◌, ℕ, zero, suc, ◌+◌, ◌≤◌, ◌<◌, true, false, List, [], ◌∷◌, length, take, Some, slice_get, get_or, sym, ap, ◌∙◌, arith, true≢false, ⊎_elim}
-use Rattle.std.proofs.lemmas.List.{length-take-le}
-use Rattle.std.proofs.lemmas.Option.{same_Some, slice_get_within, slice_get-get_or, option_and_then_some}
+use Rattle.std.proofs.Common.{◌≡◌, ℕ, ◌+◌, ◌^◌, ◌≤◌, true, false, List, [], ◌∷◌, length, take, Some, slice_get, Contains, sym, ap, ◌∙◌, subst, arith, true≢false, ⊎_elim}
+use Rattle.std.proofs.lemmas.List.{length-take}
+use Rattle.std.proofs.lemmas.Option.{same_Some, slice_get_within, option_and_then_some}
 use Rattle.std.proofs.lemmas.Bool.{cases_lt}
 use Rattle.np_planner.specs.declared.counters.Counters.{Counters}
+use Rattle.np_planner.specs.declared.search.End.TheVariants.{Plan, NoPlan, Spent}
 use Rattle.np_planner.specs.declared.search.tree.Node.{Node}
-use Rattle.np_planner.specs.Counters.{Values, next, run, is_goal, Leads, IsShortest, IsBlocked, IsSpent}
+use Rattle.np_planner.specs.Counters.{Values, next, run, is_goal, Leads, IsBlocked, NoneShorter}
+use Rattle.np_planner.specs.Explored.{AreExpandedTo}
+use Rattle.np_planner.specs.Found.{expanded_in, IsEnd}
 use Rattle.np_planner.specs.SearchTree.{IsEntry, IsKept, IsFrontier, IsPath}
+use Rattle.np_planner.proofs.SearchExpanded.{get_take, length-expanded_in, values-expanded_in, all_expanded, expanded_to}
 use Rattle.np_planner.proofs.SearchGrowth.{placed_contained}
 use Rattle.np_planner.proofs.SearchPaths.{path_leads, entry_within}
-
--- a place of a front is one of the whole
-get_take : {X : Type 0} (n : ℕ) (xs : List X) (i : ℕ) (x : X) → slice_get (take n xs) i ≡ Some x → slice_get xs i ≡ Some x
-get_take zero xs i x e = absurd (cc)
-get_take (suc n) [] i x e = absurd (cc)
-get_take (suc n) (y ∷ xs) zero x e = e
-get_take (suc n) (y ∷ xs) (suc i) x e = get_take n xs i x e
 
 module _ (counters : Counters) (states : List Values) (nodes : List Node) (at : ℕ) (f : IsFrontier counters states nodes at) where
   module _ (least : ℕ) (waiting : (i : ℕ) (node : Node) → at ≤ i → slice_get nodes i ≡ Some node → least ≤ node.depth) where
@@ -40,45 +37,48 @@ module _ (counters : Counters) (states : List Values) (nodes : List Node) (at : 
         (cases_lt kept.at at)
 
   -- nothing waits: no list of moves leads to the goal
-  pub blocked : length nodes ≤ at → IsBlocked counters
+  blocked : length nodes ≤ at → IsBlocked counters
   blocked none numbers leads =
       let h : length numbers + 1 ≤ 0 + length numbers = no_cheaper (length numbers + 1) (λ i node past is. absurd (omega (arith, slice_get_within nodes i node is))) numbers counters.start 0 f.tree.start leads in
       omega (arith, h)
 
-  module _ (values : Values) (node : Node) (here : IsEntry states nodes at values node) where
-    none_nearer : (numbers : List ℕ) → Leads counters counters.start numbers → node.depth ≤ length numbers
-    none_nearer numbers leads =
-        let h : node.depth ≤ 0 + length numbers = no_cheaper node.depth (λ i n past is. f.tree.ordered at i node n past here.link is) numbers counters.start 0 f.tree.start leads in
-        omega (arith, h)
+  module _ (few : at ≤ 2 ^ 24) where
+    -- and all is expanded
+    pub ends_blocked : (budget : ℕ) → length nodes ≤ at → IsEnd counters budget (expanded_in at states nodes) NoPlan
+    ends_blocked budget none = (blocked none, all_expanded counters states nodes at f few none)
 
-    -- the path to a goal is a shortest list
-    pub shortest : (steps : List ℕ) → is_goal counters values ≡ true → IsPath nodes at steps → IsShortest counters steps
-    shortest steps goal path =
-        let leads = (path_leads counters states nodes f.tree at steps path).runs values node here in
-        record {
-          leads = record { end = values; runs = leads.0; goal = goal };
-          least = λ others h. omega (arith, leads.1, none_nearer others h);
-        }
+    module _ (values : Values) (node : Node) (here : IsEntry states nodes at values node) where
+      none_nearer : NoneShorter counters node.depth
+      none_nearer numbers leads =
+          let h : node.depth ≤ 0 + length numbers = no_cheaper node.depth (λ i n past is. f.tree.ordered at i node n past here.link is) numbers counters.start 0 f.tree.start leads in
+          omega (arith, h)
 
-    -- so many entries are expanded, and the next is no goal
-    pub spent : is_goal counters values ≡ false → IsSpent counters at node.depth
-    spent no_goal =
-        let within : at < length nodes = slice_get_within nodes at node here.link in
-        let many : length (take at states) ≡ at = length-take-le at states (omega (arith, f.tree.as_long)) in
-        let d : Node = record { parent = 0; step = 0; depth = 0 } in
-        record {
-          none_shorter = none_nearer;
-          reached = take at states;
-          count = many;
-          distinct = λ i j v hi hj. f.tree.distinct i j v (get_take at states i v hi) (get_take at states j v hj);
-          within = λ k e lt.
-              let placed : slice_get states k ≡ Some (get_or (take at states) k e) = get_take at states k (get_or (take at states) k e) (slice_get-get_or (take at states) k e lt) in
-              let link : slice_get nodes k ≡ Some (get_or nodes k d) = slice_get-get_or nodes k d (omega arith) in
-              entry_within counters states nodes f.tree k (get_or (take at states) k e) (get_or nodes k d) node.depth (record { state = placed; link = link }) (f.tree.ordered k at (get_or nodes k d) node (omega arith) link here.link);
-          further = values;
-          further_within = entry_within counters states nodes f.tree at values node node.depth here (omega arith);
-          further_new = λ c.
+      -- the path to a goal is a shortest list, and no longer than a budget that the place is within
+      pub ends_shortest : (budget : ℕ) (steps : List ℕ) → at ≤ budget → is_goal counters values ≡ true → IsPath nodes at steps → IsEnd counters budget (expanded_in at states nodes) (Plan steps)
+      ends_shortest budget steps within goal path =
+          let leads = (path_leads counters states nodes f.tree at steps path).runs values node here in (
+            record {
+              leads = record { end = values; runs = leads.0; goal = goal };
+              least = λ others h. omega (arith, leads.1, none_nearer others h);
+            },
+            subst (λ n. AreExpandedTo counters n (expanded_in at states nodes)) (sym leads.1) (expanded_to counters states nodes at f few node here.link),
+            omega (arith, leads.1, within, f.tree.shallow at node here.link),
+          )
+
+      -- so many entries are expanded, and the next is no goal
+      pub ends_spent : is_goal counters values ≡ false → IsEnd counters at (expanded_in at states nodes) (Spent node.depth)
+      ends_spent no_goal = record {
+        none_shorter = none_nearer;
+        expanded = expanded_to counters states nodes at f few node here.link;
+        count = length-expanded_in states nodes at f.tree.as_long f.within;
+        further = values;
+        further_within = entry_within counters states nodes f.tree at values node node.depth here (omega arith);
+        further_new = λ c. new (subst (λ vs. Contains vs values) (values-expanded_in states nodes at f.tree.as_long f.within) c);
+        further_no_goal = no_goal;
+        short = f.tree.shallow at node here.link;
+      }
+        where
+          new : Contains (take at states) values → ⊥
+          new c =
               let same : c.0 ≡ at = f.tree.distinct c.0 at values (get_take at states c.0 values (placed_contained (take at states) values c)) here.state in
-              omega (arith, c.1);
-          further_no_goal = no_goal;
-        }
+              omega (arith, c.1, length-take at states)

@@ -29,6 +29,7 @@ frontier_first counters start =
         shallow = λ i n h. omega (arith, depth i n h);
         ordered = λ i j m n le hi hj. omega (arith, depth i m hi);
       };
+      within = omega arith;
       near = λ i n h hi hh. omega (arith, depth i n hi);
       expanded = λ i v n before h. absurd (omega arith);
     }

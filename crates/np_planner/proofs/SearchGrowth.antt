@@ -125,6 +125,7 @@ module _ (counters : Counters) (states : List Values) (nodes : List Node) (at nu
   pub frontier_added : IsFrontier counters (states ++ t ∷ []) (nodes ++ added ∷ []) at
   frontier_added = record {
     tree = tree_added;
+    within = let w : at < length nodes = within in omega (arith, length_push nodes added);
     near = near_added;
     expanded = λ i v n before h.
         ⊎_elim

@@ -55,9 +55,15 @@ module _ (counters : Counters) (states : List Values) (nodes : List Node) (tree 
       let front = path_within fuel node.parent (omega arith) (omega arith) in
       (front.0 ++ node.step ∷ [], further (suc at) node front.0 (omega arith) there front.1)
 
-  -- so each entry is within its depth
-  pub entry_within : (at : ℕ) (values : Values) (node : Node) (bound : ℕ) → IsEntry states nodes at values node → node.depth ≤ bound → IsWithin counters bound values
-  entry_within at values node bound h le =
+  -- so each entry is reached by as many moves as its depth
+  pub entry_reached : (at : ℕ) (values : Values) (node : Node) → IsEntry states nodes at values node → (numbers : List ℕ) × (run counters numbers counters.start ≡ Some values) × (length numbers ≡ node.depth)
+  entry_reached at values node h =
       let path = path_within (at + 1) at (omega arith) (slice_get_within nodes at node h.link) in
       let leads = (path_leads at path.0 path.1).runs values node h in
-      record { numbers = path.0; runs = leads.0; short = omega (arith, leads.1) }
+      (path.0, leads.0, leads.1)
+
+  -- and is within its depth
+  pub entry_within : (at : ℕ) (values : Values) (node : Node) (bound : ℕ) → IsEntry states nodes at values node → node.depth ≤ bound → IsWithin counters bound values
+  entry_within at values node bound h le =
+      let reached = entry_reached at values node h in
+      record { numbers = reached.0; runs = reached.1; short = omega (arith, reached.2) }

@@ -123,6 +123,7 @@ under_way_more counters old new at number s u = record {
 pub frontier_next : (counters : Counters) (tree : Tree) (at count : ℕ) → length counters.moves ≤ count → IsUnderWay counters tree at count → IsFrontier counters (states_of tree) tree.nodes (at + 1)
 frontier_next counters tree at count all u = record {
   tree = u.frontier.tree;
+  within = let w : at < length tree.nodes = slice_get_within tree.nodes at u.node u.entry.link in omega arith;
   near = λ i n h is there. omega (arith, u.frontier.near i n u.node is u.entry.link, u.frontier.tree.ordered at (at + 1) u.node h (omega arith) u.entry.link there);
   expanded = λ i v n before h.
       ⊎_elim

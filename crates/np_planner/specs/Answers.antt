@@ -1,7 +1,9 @@
--- Which answers of `solve` are right.
-use Rattle.std.specs.Prelude.{◌≡◌, ℕ, ◌^◌, ◌<◌, ◌≤◌, pos, Option, Some, None, List, length, map, All, Contains, slice_get, false}
+-- Which answers of `solve` are right, and what the commands say of the shelf.
+use Rattle.std.specs.Prelude.{◌≡◌, ℕ, ◌^◌, ◌<◌, ◌≤◌, pos, Option, Some, List, length, map, All, Contains, slice_get, false, take, ◌⊎◌}
 use Rattle.std.specs.Str.{bytes_eq}
 use Rattle.np_io.specs.Files.{Files, Changes, HasPut, HasPutPrefix, IsHeld, IsLonger}
+use Rattle.np_cert.specs.declared.certificate.Limit.{Limit}
+use Rattle.np_cert.specs.declared.certificate.Limit.TheVariants.{Number, Absent}
 use Rattle.np_io.specs.Counts.{Rose, OnlyAt}
 use Rattle.np_frac.specs.Fractions.{Fraction, whole}
 use Rattle.np_model.specs.declared.task.Task.{Task}
@@ -9,15 +11,17 @@ use Rattle.np_model.specs.States.{State}
 use Rattle.np_model.specs.Tasks.{IsTask}
 use Rattle.np_model.specs.Plans.{IsPlan, IsUnsolvable, NoPlanBelow, Reaches, IsAtMost, is_goal}
 use Rattle.np_planner.specs.declared.answer.File.{File}
-use Rattle.np_planner.specs.declared.answer.File.TheVariants.{Domain, Problem, Plan}
+use Rattle.np_planner.specs.declared.answer.File.TheVariants.{Domain, Problem, Certificate, Plan}
 use Rattle.np_planner.specs.declared.answer.Answer.{Answer}
-use Rattle.np_planner.specs.declared.answer.Answer.TheVariants.{Usage, CannotRead, TooLong, NotBuilt, Optimal, Unsolvable, Spent, CannotWrite, OutOfMemory}
+use Rattle.np_planner.specs.declared.answer.Answer.TheVariants.{CannotRead, TooLong, NotBuilt, Optimal, Unsolvable, Spent, CannotWrite, OutOfMemory}
 use Rattle.np_planner.specs.declared.syntax.Domain.{Domain as DomainText}
 use Rattle.np_planner.specs.declared.syntax.Problem.{Problem as ProblemText}
 use Rattle.np_planner.specs.FirstForm.{SpellsPair}
 use Rattle.np_planner.specs.TaskOf.{task_of, step_of}
 use Rattle.np_planner.specs.PlanText.{plan_text}
-use Rattle.np_planner.specs.Words.{Solve}
+use Rattle.np_planner.specs.FlatOf.{flat_of}
+use Rattle.np_planner.specs.Certified.{IsCertified, IsSpentOn}
+use Rattle.np_planner.specs.Words.{Inputs, Solve}
 
 -- what a shelf is: what it holds, where it tells, and how often reads and writes of each name have failed
 pub record Shelf : Type 0 where
@@ -39,25 +43,25 @@ pub record IsRead (shelf : Shelf) (name bytes : List ℕ) : Type 0 where
   pub within : length bytes ≤ most_bytes
 
 -- both files could be read
-pub record AreRead (command : Solve) (shelf : Shelf) (domain problem : List ℕ) : Type 0 where
-  pub domain_read : IsRead shelf command.domain domain
-  pub problem_read : IsRead shelf command.problem problem
+pub record AreRead (inputs : Inputs) (shelf : Shelf) (domain problem : List ℕ) : Type 0 where
+  pub domain_read : IsRead shelf inputs.domain domain
+  pub problem_read : IsRead shelf inputs.problem problem
 
 -- the files spell a pair of the first form, and its task is well formed
-pub record HavePair (command : Solve) (shelf : Shelf) : Type 0 where
+pub record HavePair (inputs : Inputs) (shelf : Shelf) : Type 0 where
   pub domain_bytes : List ℕ
   pub problem_bytes : List ℕ
-  pub read : AreRead command shelf domain_bytes problem_bytes
+  pub read : AreRead inputs shelf domain_bytes problem_bytes
   pub domain : DomainText
   pub problem : ProblemText
   pub spelled : SpellsPair domain_bytes problem_bytes domain problem
   pub well_formed : IsTask (task_of domain problem)
 
 -- the files spell a pair that isn't of the first form
-pub record HaveNoPair (command : Solve) (shelf : Shelf) : Type 0 where
+pub record HaveNoPair (inputs : Inputs) (shelf : Shelf) : Type 0 where
   pub domain_bytes : List ℕ
   pub problem_bytes : List ℕ
-  pub read : AreRead command shelf domain_bytes problem_bytes
+  pub read : AreRead inputs shelf domain_bytes problem_bytes
   pub none : (d : DomainText) (p : ProblemText) → SpellsPair domain_bytes problem_bytes d p → ⊥
 
 -- the lines of the plan name a plan of the pair's task, this is its cost, and no plan of any length costs less
@@ -112,87 +116,115 @@ pub record WasRead (shelf : Shelf) (name : List ℕ) : Type 0 where
   pub bytes : List ℕ
   pub read : IsRead shelf name bytes
 
--- the pair has a cheapest plan of this cost, and its lines stand under PLAN
+-- the certificate's bytes stand under its name and the plan's under that of the plan, and under each other name what stood there
+pub record HasPutBoth (certificate_name certificate plan_name plan : List ℕ) (old new : Files) : Type 0 where
+  pub certificate_there : new certificate_name ≡ Some certificate
+  pub plan_there : new plan_name ≡ Some plan
+  pub others : (other : List ℕ) → bytes_eq certificate_name other ≡ false → bytes_eq plan_name other ≡ false → new other ≡ old other
+
+-- the certificate's bytes stand under its name and a prefix of the plan's under that of the plan, and under each other name what stood there
+pub record HasPutFirst (certificate_name certificate plan_name plan : List ℕ) (old new : Files) : Type 0 where
+  pub certificate_there : new certificate_name ≡ Some certificate
+  pub kept : ℕ
+  pub plan_there : new plan_name ≡ Some (take kept plan)
+  pub others : (other : List ℕ) → bytes_eq certificate_name other ≡ false → bytes_eq plan_name other ≡ false → new other ≡ old other
+
+-- of the counts of writes only those of the certificate and of the plan may have changed
+abbrev pub WritesOnly : Solve → (List ℕ → ℕ) → (List ℕ → ℕ) → Type 0
+WritesOnly command before now = (name : List ℕ) → bytes_eq command.certificate name ≡ false → bytes_eq command.plan name ≡ false → now name ≡ before name
+
+-- the pair has a cheapest plan of this cost; a certificate with the cost as its claim stands under CERT, and the plan's lines under PLAN
 pub record WasSolved (command : Solve) (cost : ℕ) (old new : Shelf) : Type 0 where
-  pub pair : HavePair command old
+  pub pair : HavePair command.inputs old
   pub plan : List ℕ
   pub cheapest : IsCheapest pair.domain pair.problem plan cost
-  pub put : Changes old.files new.files (HasPut command.plan plan)
-  pub writes : OnlyAt command.plan old.write_faults new.write_faults
+  pub certificate : List ℕ
+  pub certified : IsCertified (flat_of pair.domain pair.problem) command.nodes (Number cost) certificate
+  pub put : Changes old.files new.files (HasPutBoth command.certificate certificate command.plan plan)
+  pub writes : WritesOnly command old.write_faults new.write_faults
 
--- the pair has a cheapest plan, but the write of its lines under PLAN failed, and a prefix of them may stand there
-pub record WriteFailed (command : Solve) (old new : Shelf) : Type 0 where
-  pub pair : HavePair command old
+-- the pair has a cheapest plan, and its certificate stands under CERT; but the write of the plan's lines failed, and a prefix of them may
+-- stand under PLAN
+pub record PlanFailed (command : Solve) (old new : Shelf) : Type 0 where
+  pub pair : HavePair command.inputs old
   pub plan : List ℕ
   pub cost : ℕ
   pub cheapest : IsCheapest pair.domain pair.problem plan cost
-  pub prefix : Changes old.files new.files (HasPutPrefix command.plan plan)
+  pub certificate : List ℕ
+  pub certified : IsCertified (flat_of pair.domain pair.problem) command.nodes (Number cost) certificate
+  pub prefix : Changes old.files new.files (HasPutFirst command.certificate certificate command.plan plan)
   pub rose : Rose (old.write_faults command.plan) (new.write_faults command.plan)
-  pub writes : OnlyAt command.plan old.write_faults new.write_faults
+  pub writes : WritesOnly command old.write_faults new.write_faults
 
--- the pair has no plan
+-- the pair has a certificate; but its write failed, a prefix of it may stand under CERT, and nothing else was put
+pub record CertificateFailed (command : Solve) (old new : Shelf) : Type 0 where
+  pub pair : HavePair command.inputs old
+  pub claim : Limit
+  pub certificate : List ℕ
+  pub certified : IsCertified (flat_of pair.domain pair.problem) command.nodes claim certificate
+  pub prefix : Changes old.files new.files (HasPutPrefix command.certificate certificate)
+  pub rose : Rose (old.write_faults command.certificate) (new.write_faults command.certificate)
+  pub writes : OnlyAt command.certificate old.write_faults new.write_faults
+
+-- the certificate of the pair stands under CERT, and nothing else was put
+pub record OnlyCertified (command : Solve) (old new : Shelf) : Type 0 where
+  pub pair : HavePair command.inputs old
+  pub claim : Limit
+  pub certificate : List ℕ
+  pub certified : IsCertified (flat_of pair.domain pair.problem) command.nodes claim certificate
+  pub put : Changes old.files new.files (HasPut command.certificate certificate)
+  pub writes : OnlyAt command.certificate old.write_faults new.write_faults
+
+-- the pair has no plan, and a certificate that says so stands under CERT
 pub record WasUnsolvable (command : Solve) (old new : Shelf) : Type 0 where
-  pub pair : HavePair command old
+  pub pair : HavePair command.inputs old
   pub unsolvable : IsUnsolvable (task_of pair.domain pair.problem)
-  pub unwritten : IsUnwritten old new
+  pub certificate : List ℕ
+  pub certified : IsCertified (flat_of pair.domain pair.problem) command.nodes Absent certificate
+  pub put : Changes old.files new.files (HasPut command.certificate certificate)
+  pub writes : OnlyAt command.certificate old.write_faults new.write_faults
 
--- the budget was spent on the pair
+-- the budget was spent on the pair, and a certificate with the bound as its claim stands under CERT, with as many entries as the budget
 pub record WasSpent (command : Solve) (nodes bound : ℕ) (old new : Shelf) : Type 0 where
-  pub pair : HavePair command old
+  pub pair : HavePair command.inputs old
   pub budget : nodes ≡ command.nodes
   pub spent : IsSpent (task_of pair.domain pair.problem) nodes bound
-  pub unwritten : IsUnwritten old new
+  pub certificate : List ℕ
+  pub certified : IsCertified (flat_of pair.domain pair.problem) nodes (Number bound) certificate
+  pub spent_flat : IsSpentOn (flat_of pair.domain pair.problem) nodes bound certified.certificate.entries
+  pub put : Changes old.files new.files (HasPut command.certificate certificate)
+  pub writes : OnlyAt command.certificate old.write_faults new.write_faults
+
+-- no count of reads fell, and only those of the domain and the problem may have risen
+pub record ReadsOnly (inputs : Inputs) (before now : List ℕ → ℕ) : Type 0 where
+  pub later : (name : List ℕ) → before name ≤ now name
+  pub others : (name : List ℕ) → bytes_eq inputs.domain name ≡ false → bytes_eq inputs.problem name ≡ false → now name ≡ before name
+
+-- the answer where one of the two files can't be had
+abbrev pub AreUnread : Inputs → Shelf → Shelf → Answer → Type 0
+AreUnread inputs old new (CannotRead Domain) = ReadFailed inputs.domain old new × OnlyAt inputs.domain old.read_faults new.read_faults
+AreUnread inputs old new (CannotRead Problem) = ReadFailed inputs.problem old new × (WasRead old inputs.domain × ReadsOnly inputs old.read_faults new.read_faults)
+AreUnread inputs old new (TooLong Domain) = WasTooLong inputs.domain old new × OnlyAt inputs.domain old.read_faults new.read_faults
+AreUnread inputs old new (TooLong Problem) = WasTooLong inputs.problem old new × (WasRead old inputs.domain × ReadsOnly inputs old.read_faults new.read_faults)
+AreUnread inputs old new OutOfMemory = IsUnwritten old new
+AreUnread inputs old new answer = ⊥
 
 -- whether an answer to `solve` is right, by what the shelf was before and is afterwards
 abbrev pub IsRight : Solve → Shelf → Shelf → Answer → Type 0
-IsRight command old new Usage = ⊥
-IsRight command old new (CannotRead Domain) = ReadFailed command.domain old new × OnlyAt command.domain old.read_faults new.read_faults
-IsRight command old new (CannotRead Problem) = ReadFailed command.problem old new × WasRead old command.domain
-IsRight command old new (CannotRead Plan) = ⊥
-IsRight command old new (TooLong Domain) = WasTooLong command.domain old new × OnlyAt command.domain old.read_faults new.read_faults
-IsRight command old new (TooLong Problem) = WasTooLong command.problem old new × WasRead old command.domain
-IsRight command old new (TooLong Plan) = ⊥
-IsRight command old new NotBuilt = IsUnwritten old new × HaveNoPair command old
+IsRight command old new (CannotRead file) = AreUnread command.inputs old new (CannotRead file)
+IsRight command old new (TooLong file) = AreUnread command.inputs old new (TooLong file)
+IsRight command old new NotBuilt = IsUnwritten old new × HaveNoPair command.inputs old
 IsRight command old new (Optimal cost) = WasSolved command cost old new
 IsRight command old new Unsolvable = WasUnsolvable command old new
 IsRight command old new (Spent nodes bound) = WasSpent command nodes bound old new
-IsRight command old new (CannotWrite Domain) = ⊥
-IsRight command old new (CannotWrite Problem) = ⊥
-IsRight command old new (CannotWrite Plan) = WriteFailed command old new
-IsRight command old new OutOfMemory = IsUnwritten old new
-
--- no count of reads fell, and only those of the domain and the problem may have risen
-pub record ReadsOnly (command : Solve) (before now : List ℕ → ℕ) : Type 0 where
-  pub later : (name : List ℕ) → before name ≤ now name
-  pub others : (name : List ℕ) → bytes_eq command.domain name ≡ false → bytes_eq command.problem name ≡ false → now name ≡ before name
-
--- whether an answer to these words is right: usage exactly where they fit no command, and then nothing was done
-abbrev pub IsAnswer : Option Solve → Shelf → Shelf → Answer → Type 0
-IsAnswer None old new answer = (answer ≡ Usage) × (new ≡ old)
-IsAnswer (Some command) old new answer = IsRight command old new answer × ReadsOnly command old.read_faults new.read_faults
+IsRight command old new (CannotWrite Certificate) = CertificateFailed command old new
+IsRight command old new (CannotWrite Plan) = PlanFailed command old new
+IsRight command old new OutOfMemory = IsUnwritten old new ⊎ OnlyCertified command old new
+IsRight command old new answer = ⊥
 
 -- the answer for a file whose bytes can't be had
 abbrev pub IsUnread : File → List ℕ → Shelf → Shelf → Answer → Type 0
 IsUnread file name old new (CannotRead f) = (f ≡ file) × ReadFailed name old new
 IsUnread file name old new (TooLong f) = (f ≡ file) × WasTooLong name old new
 IsUnread file name old new OutOfMemory = new.read_faults ≡ old.read_faults
-IsUnread file name old new Usage = ⊥
-IsUnread file name old new NotBuilt = ⊥
-IsUnread file name old new (Optimal cost) = ⊥
-IsUnread file name old new Unsolvable = ⊥
-IsUnread file name old new (Spent nodes bound) = ⊥
-IsUnread file name old new (CannotWrite f) = ⊥
-
--- the answer to a put of a plan of this cost
-abbrev pub IsPut : List ℕ → List ℕ → ℕ → Shelf → Shelf → Answer → Type 0
-IsPut name plan cost old new (Optimal c) = (c ≡ cost) × Changes old.files new.files (HasPut name plan) × OnlyAt name old.write_faults new.write_faults
-IsPut name plan cost old new (CannotWrite Plan) = Changes old.files new.files (HasPutPrefix name plan) × Rose (old.write_faults name) (new.write_faults name) × OnlyAt name old.write_faults new.write_faults
-IsPut name plan cost old new OutOfMemory = IsUnwritten old new
-IsPut name plan cost old new (CannotWrite Domain) = ⊥
-IsPut name plan cost old new (CannotWrite Problem) = ⊥
-IsPut name plan cost old new (CannotRead f) = ⊥
-IsPut name plan cost old new (TooLong f) = ⊥
-IsPut name plan cost old new Usage = ⊥
-IsPut name plan cost old new NotBuilt = ⊥
-IsPut name plan cost old new Unsolvable = ⊥
-IsPut name plan cost old new (Spent nodes bound) = ⊥
+IsUnread file name old new answer = ⊥

@@ -1,8 +1,16 @@
 pub mod Answer
 pub mod Answers
+pub mod Certified
+pub mod CertifiedLaws
+pub mod Checked
+pub mod Checking
 pub mod Counters
 pub mod CountersOf
+pub mod Evidence
+pub mod Explored
 pub mod FirstForm
+pub mod FlatOf
+pub mod FlatParts
 pub mod Found
 pub mod Outcomes
 pub mod PairNames
@@ -13,6 +21,7 @@ pub mod ReadingAnswers
 pub mod ReadingForm
 pub mod ReadingSteps
 pub mod Said
+pub mod SameFlat
 pub mod SamePlans
 pub mod SearchTree
 pub mod StateOf

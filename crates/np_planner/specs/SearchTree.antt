@@ -65,6 +65,7 @@ pub record IsExpanded (counters : Counters) (states : List Values) (nodes : List
 -- the entries below `at` are expanded, and none is deeper than one below the entry at `at`
 pub record IsFrontier (counters : Counters) (states : List Values) (nodes : List Node) (at : ℕ) : Type 0 where
   pub tree : IsTree counters states nodes
+  pub within : at ≤ length nodes
   pub near : (i : ℕ) (node here : Node) → slice_get nodes i ≡ Some node → slice_get nodes at ≡ Some here → node.depth ≤ here.depth + 1
   pub expanded : (i : ℕ) (values : Values) (node : Node) → i < at → IsEntry states nodes i values node → IsExpanded counters states nodes values node.depth
 

@@ -1,16 +1,30 @@
--- The words of the command `solve`.
+-- The words of the commands `solve` and `check`.
 use Rattle.std.specs.Prelude.{ℕ, ◌+◌, ◌-◌, ◌*◌, ◌^◌, Bool, ◌&&◌, not, List, [], ◌∷◌, Option, Some, None, codes, nat_le, if◌then◌else◌}
 use Rattle.std.specs.Char.{is_ascii_digit}
-use Rattle.std.specs.Option.{option_map}
+use Rattle.std.specs.Option.{option_map, option_or}
 use Rattle.std.specs.Str.{bytes_eq}
 
--- what `solve` is told: four names of files, and how many states it may expand
-pub record Solve : Type 0 where
+-- the names of the pair of files that a command reads first
+pub record Inputs : Type 0 where
   pub domain : List ℕ
   pub problem : List ℕ
+
+-- what `solve` is told: the pair, the two files that it puts, and how many states it may expand
+pub record Solve : Type 0 where
+  pub inputs : Inputs
   pub plan : List ℕ
   pub certificate : List ℕ
   pub nodes : ℕ
+
+-- what `check` is told: the pair, and the certificate
+pub record Check : Type 0 where
+  pub inputs : Inputs
+  pub certificate : List ℕ
+
+-- what a command is told
+pub data Command : Type 0 where
+  solving : Solve → Command
+  checking : Check → Command
 
 -- the number that decimal digits stand for behind a number that is already read; none where a byte is no digit
 abbrev pub number_from : ℕ → List ℕ → Option ℕ
@@ -43,6 +57,18 @@ budget_of (word ∷ other ∷ words) = None
 abbrev pub solve_of : List (List ℕ) → Option Solve
 solve_of (command ∷ domain ∷ problem ∷ plan ∷ certificate ∷ words) =
     if bytes_eq command (codes "solve") && is_apart domain problem plan certificate
-    then option_map (λ nodes. record { domain = domain; problem = problem; plan = plan; certificate = certificate; nodes = nodes }) (budget_of words)
+    then option_map (λ nodes. record { inputs = record { domain = domain; problem = problem }; plan = plan; certificate = certificate; nodes = nodes }) (budget_of words)
     else None
 solve_of words = None
+
+-- `check DOMAIN PROBLEM CERT`
+abbrev pub check_of : List (List ℕ) → Option Check
+check_of (command ∷ domain ∷ problem ∷ certificate ∷ []) =
+    if bytes_eq command (codes "check")
+    then Some (record { inputs = record { domain = domain; problem = problem }; certificate = certificate })
+    else None
+check_of words = None
+
+-- the command that the words fit; they never fit both
+abbrev pub command_of : List (List ℕ) → Option Command
+command_of words = option_or (option_map solving (solve_of words)) (option_map checking (check_of words))

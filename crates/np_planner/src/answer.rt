@@ -4,6 +4,7 @@ ghost use Rattle.np_planner.specs.declared.answer.Answer.{Answer};
 ghost use Rattle.np_planner.specs.Answer.{text_of, status_of, name_of};
 
 use itoa::Buffer;
+use np_cert::Limit;
 use std::alloc::{AllocError, Global};
 
 /// A file that a command names.
@@ -11,6 +12,7 @@ use std::alloc::{AllocError, Global};
 pub enum File {
     Domain,
     Problem,
+    Certificate,
     Plan,
 }
 
@@ -31,6 +33,16 @@ pub enum Answer {
     Unsolvable,
     /// So many states were expanded, and no plan costs less than the second number.
     Spent(u32, u32),
+    /// The certificate is valid: no plan costs less than its claim, or there is none.
+    Yes(Limit),
+    /// The certificate's proof of this number is the first that fails.
+    ProofFails(usize),
+    /// The certificate's entry of this number is the first with a fault: it has the state of an earlier one.
+    Repeats(usize),
+    /// The certificate's entry of this number is the first with a fault: it isn't justified.
+    Unjustified(usize),
+    /// All entries of the certificate are good, and its claim is above what they say of the start.
+    ClaimAbove,
     /// A file could not be written.
     CannotWrite(File),
     /// Memory ran out.
@@ -45,6 +57,7 @@ impl File {
         match self {
             File::Domain => "domain",
             File::Problem => "problem",
+            File::Certificate => "certificate",
             File::Plan => "plan",
         }
     }
@@ -59,7 +72,7 @@ impl Answer {
         match *self {
             Answer::Usage => String::from_str(
                 alloc,
-                "usage: solve DOMAIN PROBLEM PLAN CERT [NODES]\n",
+                "usage: solve DOMAIN PROBLEM PLAN CERT [NODES]\n       check DOMAIN PROBLEM CERT\n",
             ),
             Answer::CannotRead(file) => format!(in alloc; "Refused: cannot read {}\n", file.name()),
             Answer::TooLong(file) => format!(in alloc; "Refused: {} too long\n", file.name()),
@@ -67,6 +80,22 @@ impl Answer {
             Answer::Optimal(cost) => format!(in alloc; "Optimal {}, weak 0\n", buffer.format(cost)),
             Answer::Unsolvable => String::from_str(alloc, "Unsolvable, weak 0\n"),
             Answer::Spent(nodes, bound) => spent_text(alloc, nodes, bound),
+            Answer::Yes(Limit::Number(claim)) => {
+                format!(in alloc; "Yes: no plan costs less than {}\n", buffer.format(claim))
+            }
+            Answer::Yes(Limit::Absent) => String::from_str(alloc, "Yes: there is no plan\n"),
+            Answer::ProofFails(proof) => {
+                format!(in alloc; "No: proof {} fails\n", buffer.format(proof))
+            }
+            Answer::Repeats(entry) => {
+                format!(in alloc; "No: entry {} repeats a state\n", buffer.format(entry))
+            }
+            Answer::Unjustified(entry) => {
+                format!(in alloc; "No: entry {} is not justified\n", buffer.format(entry))
+            }
+            Answer::ClaimAbove => {
+                String::from_str(alloc, "No: the claim is above the start's bound\n")
+            }
             Answer::CannotWrite(file) => format!(in alloc;
                 "Refused: cannot write {}\n",
                 file.name()
@@ -80,12 +109,16 @@ impl Answer {
         ensures { result ≡ status_of self.now }
     {
         match self {
-            Answer::Optimal(_) => 0,
+            Answer::Optimal(_) | Answer::Yes(_) => 0,
             Answer::Usage => 2,
             Answer::TooLong(_) => 3,
             Answer::NotBuilt => 3,
             Answer::CannotRead(_) => 4,
             Answer::CannotWrite(_) => 5,
+            Answer::ProofFails(_)
+            | Answer::Repeats(_)
+            | Answer::Unjustified(_)
+            | Answer::ClaimAbove => 6,
             Answer::OutOfMemory => 7,
             Answer::Unsolvable => 10,
             Answer::Spent(_, _) => 11,

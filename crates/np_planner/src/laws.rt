@@ -1,5 +1,6 @@
 //! Laws of the definitions: a task of the first form has the same runs and plans as its counters.
 ghost use Rattle.np_planner.specs.SamePlans.{SameStart, SameValues, SameGoal, SameStep, NoOtherStep, SameLength, SameRun, SameCost, OnlyMoves, MovesArePlan, PlansAreMoves, ShortestIsCheapest, BlockedIsUnsolvable, BoundIsBound, NumbersAreSmall, TaskIsTask, MovesAreRun, RunsAreMoves};
+ghost use Rattle.np_planner.specs.SameFlat.{FlatIsFlat};
 
 /// The task starts where its counters start.
 pub fn same_start()
@@ -89,4 +90,9 @@ pub fn moves_are_run()
 /// Each run from the start is one of moves.
 pub fn runs_are_moves()
     ensures { RunsAreMoves }
+{}
+
+/// The flat task of a pair keeps what every flat task keeps.
+pub fn flat_is_flat()
+    ensures { FlatIsFlat }
 {}

@@ -2,8 +2,14 @@
 #![tactic(auto)]
 
 mod answer;
+mod certified_laws;
+mod check;
 mod counters;
 mod entry;
+mod evidence;
+mod evidence_laws;
+mod flat_laws;
+mod inputs;
 mod laws;
 mod pair;
 mod reading;

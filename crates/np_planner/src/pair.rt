@@ -3,16 +3,22 @@ ghost use Rattle.std.specs.Prelude.{◌≡◌, IfOk, IfSome, IfNone};
 ghost use Rattle.np_planner.specs.Syntax.{IsDomain, IsProblem};
 ghost use Rattle.np_planner.specs.FirstForm.{IsFirstForm};
 ghost use Rattle.np_planner.specs.CountersOf.{counters_of};
+ghost use Rattle.np_planner.specs.SamePlans.{IsProper};
+ghost use Rattle.np_planner.specs.FlatOf.{flat_of};
 
 mod build;
 mod digits;
+mod flat;
 mod form;
 mod names;
+mod nets;
+mod readings;
 mod text;
 
 use crate::counters::Counters;
 use crate::syntax::{Domain, Problem};
 use names::Names;
+use np_flat::Flat;
 use std::alloc::{AllocError, Global};
 pub use text::plan_text;
 
@@ -34,4 +40,25 @@ pub fn counters_of(
     }
     let counters = build::counters(alloc, &names, domain, problem)?;
     Ok(Some(counters))
+}
+
+/// The flat task of a pair, where it is of the first form.
+pub fn flat_of(
+    alloc: Global,
+    domain: &Domain,
+    problem: &Problem,
+) -> Result<Option<Flat>, AllocError>
+    requires domain_written { IsDomain domain.now }
+    requires problem_written { IsProblem problem.now }
+    requires proper { IsProper domain.now }
+    ensures found { IfOk result (λ found. IfSome found (λ f.
+        (f ≡ flat_of domain.now problem.now) × IsFirstForm domain.now problem.now)) }
+    ensures none { IfOk result (λ found. IfNone found (IsFirstForm domain.now problem.now → ⊥)) }
+{
+    let names = Names::new(alloc, domain, problem)?;
+    if !form::is_first_form(&names, domain, problem) {
+        return Ok(None);
+    }
+    let flat = flat::flat(alloc, &names, domain, problem)?;
+    Ok(Some(flat))
 }

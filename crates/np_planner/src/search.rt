@@ -1,7 +1,7 @@
 //! The search for a shortest list of moves, breadth first.
 ghost use Rattle.std.specs.Prelude.{◌≡◌, ◌^◌, ◌≤◌, ◌<◌, ◌+◌, IfOk, OnOk, Some, false, length, slice_get};
 ghost use Rattle.np_planner.specs.Counters.{IsInRange, Values, is_goal};
-ghost use Rattle.np_planner.specs.Found.{IsFound};
+ghost use Rattle.np_planner.specs.Found.{IsFound, expanded_of};
 ghost use Rattle.np_planner.specs.SearchTree.{states_of, IsFrontier, StepTaken};
 
 mod moves;
@@ -13,15 +13,35 @@ use sqlite_items::Items;
 use std::alloc::{AllocError, Global};
 use tree::{Node, Tree, path_to};
 
-/// What a search finds.
+/// How a search ends.
 #[derive(Drop)]
-pub enum Found {
+pub enum End {
     /// The numbers of the moves of a shortest list that leads to the goal.
     Plan(Items<usize>),
     /// No list of moves leads to the goal.
     NoPlan,
     /// The budget is spent: each list of moves to the goal has at least this many.
     Spent(u32),
+}
+
+/// What a search finds, and what it has expanded on the way.
+#[derive(Drop)]
+pub struct Found {
+    pub end: End,
+    /// What was reached, in the order of discovery.
+    pub tree: Tree,
+    /// How many entries of the tree, from the first one on, were expanded.
+    pub expanded: usize,
+}
+
+impl Found {
+    /// The values that were expanded at this place, and how many moves lead there.
+    pub fn expanded_at(&self, at: usize) -> (&[i128], u32)
+        requires { at < length (expanded_of self.now) }
+        ensures { slice_get (expanded_of self.now) at ≡ Some (result.0.now, result.1) }
+    {
+        (self.tree.values_at(at), self.tree.node_at(at).depth)
+    }
 }
 
 /// Searches breadth first and expands at most `nodes` different values.
@@ -35,15 +55,29 @@ pub fn search(alloc: Global, counters: &Counters, nodes: u32) -> Result<Found, A
     let mut at = 0;
     while at < tree.nodes.len() {
         if meets_all(tree.values_at(at), counters.goal.as_slice()) {
-            return Ok(Found::Plan(path_to(alloc, tree.nodes.as_slice(), at)?));
+            let end = End::Plan(path_to(alloc, tree.nodes.as_slice(), at)?);
+            return Ok(Found {
+                end,
+                tree,
+                expanded: at,
+            });
         }
         if at == nodes as usize {
-            return Ok(Found::Spent(tree.node_at(at).depth));
+            let end = End::Spent(tree.node_at(at).depth);
+            return Ok(Found {
+                end,
+                tree,
+                expanded: at,
+            });
         }
         expand(alloc, counters, &mut tree, at)?;
         at += 1;
     }
-    Ok(Found::NoPlan)
+    Ok(Found {
+        end: End::NoPlan,
+        tree,
+        expanded: at,
+    })
 }
 
 /// Adds what each move leads to from the entry at `at`.

@@ -1,8 +1,11 @@
 //! The words of the commands.
-ghost use Rattle.std.specs.Prelude.{◌≡◌, ◌≤◌, ◌^◌, map, string_bytes, IfSome};
+ghost use Rattle.std.specs.Prelude.{◌≡◌, ◌≤◌, ◌^◌, map, string_bytes, IfSome, Some, false};
+ghost use Rattle.std.specs.Str.{bytes_eq};
 ghost use Rattle.std.specs.Option.{option_map};
-ghost use Rattle.np_planner.specs.Words.{solve_of, budget_of, nodes_of, is_apart};
-ghost use Rattle.np_planner.specs.Told.{told};
+ghost use Rattle.np_planner.specs.Words.{solve_of, check_of, command_of, budget_of, nodes_of, is_apart};
+ghost use Rattle.np_planner.specs.Told.{told, told_solve, told_check, told_inputs};
+ghost use Rattle.np_planner.specs.declared.words.Solve.{Solve as SolveWords};
+ghost use Rattle.np_planner.specs.declared.words.Command.TheVariants as fits;
 
 /// How many states `solve` expands where its words name no number.
 const DEFAULT_NODES: u32 = 100_000;
@@ -10,21 +13,58 @@ const DEFAULT_NODES: u32 = 100_000;
 /// The most states that `solve` expands.
 const MOST_NODES: u32 = 1 << 24;
 
-/// What `solve` is told: four names of files, and how many states it may expand.
+/// The names of the pair of files that a command reads first.
 #[derive(Clone, Copy, Debug)]
-pub struct Solve<'a> {
+pub struct Inputs<'a> {
     pub domain: &'a str,
     pub problem: &'a str,
+}
+
+/// What `solve` is told: the pair, the two files that it puts, and how many states it may expand.
+#[derive(Clone, Copy, Debug)]
+pub struct Solve<'a> {
+    pub inputs: Inputs<'a>,
     pub plan: &'a str,
     pub certificate: &'a str,
     pub nodes: u32,
 }
 
+/// What `check` is told: the pair, and the certificate.
+#[derive(Clone, Copy, Debug)]
+pub struct Check<'a> {
+    pub inputs: Inputs<'a>,
+    pub certificate: &'a str,
+}
+
+/// What a command is told.
+#[derive(Clone, Copy, Debug)]
+pub enum Command<'a> {
+    Solve(Solve<'a>),
+    Check(Check<'a>),
+}
+
+/// The command that the words fit; none where they fit no command.
+pub fn command_words(words: &[String]) -> Option<Command<'_>>
+    ensures told { option_map told result ≡ command_of (map string_bytes words.now) }
+    ensures some_nodes { (command : SolveWords) → result ≡ Some (fits.Solve command) → 1 ≤ command.nodes }
+    ensures few_nodes { (command : SolveWords) → result ≡ Some (fits.Solve command) → command.nodes ≤ 2 ^ 24 }
+    ensures apart { (command : SolveWords) → result ≡ Some (fits.Solve command) → bytes_eq command.plan.now command.certificate.now ≡ false }
+{
+    match solve_words(words) {
+        Some(command) => Some(Command::Solve(command)),
+        None => match check_words(words) {
+            Some(command) => Some(Command::Check(command)),
+            None => None,
+        },
+    }
+}
+
 /// What the words tell `solve`; none where they aren't `solve DOMAIN PROBLEM PLAN CERT [NODES]`.
-pub fn solve_words(words: &[String]) -> Option<Solve<'_>>
-    ensures told { option_map told result ≡ solve_of (map string_bytes words.now) }
+fn solve_words(words: &[String]) -> Option<Solve<'_>>
+    ensures told { option_map told_solve result ≡ solve_of (map string_bytes words.now) }
     ensures some_nodes { IfSome result (λ solve. 1 ≤ solve.nodes) }
     ensures few_nodes { IfSome result (λ solve. solve.nodes ≤ 2 ^ 24) }
+    ensures apart { IfSome result (λ solve. bytes_eq solve.plan.now solve.certificate.now ≡ false) }
 {
     let [command, domain, problem, plan, certificate, rest @ ..] = words else {
         return None;
@@ -41,11 +81,32 @@ pub fn solve_words(words: &[String]) -> Option<Solve<'_>>
     }
     let nodes = budget(rest)?;
     Some(Solve {
-        domain: domain.as_str(),
-        problem: problem.as_str(),
+        inputs: Inputs {
+            domain: domain.as_str(),
+            problem: problem.as_str(),
+        },
         plan: plan.as_str(),
         certificate: certificate.as_str(),
         nodes,
+    })
+}
+
+/// What the words tell `check`; none where they aren't `check DOMAIN PROBLEM CERT`.
+fn check_words(words: &[String]) -> Option<Check<'_>>
+    ensures { option_map told_check result ≡ check_of (map string_bytes words.now) }
+{
+    let [command, domain, problem, certificate] = words else {
+        return None;
+    };
+    if command.as_str() != "check" {
+        return None;
+    }
+    Some(Check {
+        inputs: Inputs {
+            domain: domain.as_str(),
+            problem: problem.as_str(),
+        },
+        certificate: certificate.as_str(),
     })
 }
 

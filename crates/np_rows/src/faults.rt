@@ -1,9 +1,12 @@
 //! Faulty words, and faults of the shelf and the sink.
-use crate::trial::{STEPS, THREE, expect, expect_file, expect_solve, shelf};
+use crate::trial::{
+    NONE_BELOW_THREE, STEPS, THREE, expect, expect_check, expect_file, expect_solve, shelf,
+};
 use np_io::{MemoryShelf, MemorySink};
 use std::test::Fail;
 
-const USAGE: &str = "usage: solve DOMAIN PROBLEM PLAN CERT [NODES]\n";
+const USAGE: &str =
+    "usage: solve DOMAIN PROBLEM PLAN CERT [NODES]\n       check DOMAIN PROBLEM CERT\n";
 
 /// Words that fit no command.
 const FAULTY: &[&[&str]] = &[
@@ -11,7 +14,9 @@ const FAULTY: &[&[&str]] = &[
     &["solve", "d", "p", "plan"],
     &["solve", "d", "p", "plan", "cert", "1", "1"],
     &["Solve", "d", "p", "plan", "cert"],
-    &["check", "d", "p", "cert"],
+    &["check", "d", "p"],
+    &["check", "d", "p", "cert", "plan"],
+    &["solve", "d", "p", "cert"],
     &["solve", "d", "p", "plan", "cert", "0"],
     &["solve", "d", "p", "plan", "cert", "01"],
     &["solve", "d", "p", "plan", "cert", "16777217"],
@@ -65,7 +70,21 @@ fn faults_are_told(rt: HostRuntime) -> Result<(), Fail> {
 #[test]
 fn cut_writes_are_told(rt: HostRuntime) -> Result<(), Fail> {
     let mut failing = shelf(rt.alloc(), STEPS.as_bytes(), THREE.as_bytes())?;
-    failing.fail(2, 4)?;
+    failing.fail(2, 5)?;
+    let mut sink = MemorySink::new(rt.alloc());
+    expect_solve(
+        &rt,
+        "",
+        &mut failing,
+        &mut sink,
+        "Refused: cannot write certificate\n",
+        5,
+    )?;
+    expect_file(&rt, &failing, "cert", Some("(cert"));
+    expect_file(&rt, &failing, "plan", None);
+
+    let mut failing = shelf(rt.alloc(), STEPS.as_bytes(), THREE.as_bytes())?;
+    failing.fail(3, 4)?;
     let mut sink = MemorySink::new(rt.alloc());
     expect_solve(
         &rt,
@@ -75,13 +94,43 @@ fn cut_writes_are_told(rt: HostRuntime) -> Result<(), Fail> {
         "Refused: cannot write plan\n",
         5,
     )?;
+    expect_file(&rt, &failing, "cert", Some(NONE_BELOW_THREE));
     expect_file(&rt, &failing, "plan", Some("(up)"));
+    Ok(())
+}
 
+#[test]
+fn cut_answers_are_told(rt: HostRuntime) -> Result<(), Fail> {
     let mut whole = shelf(rt.alloc(), STEPS.as_bytes(), THREE.as_bytes())?;
     let mut cut = MemorySink::new(rt.alloc());
     cut.fail(0, 7)?;
     expect_solve(&rt, "", &mut whole, &mut cut, "Optimal", 5)?;
     expect_file(&rt, &whole, "plan", Some("(up)\n(up)\n(up)\n"));
+    expect_file(&rt, &whole, "cert", Some(NONE_BELOW_THREE));
+
+    let mut failing = shelf(rt.alloc(), STEPS.as_bytes(), THREE.as_bytes())?;
+    failing.fail(2, 5)?;
+    let mut silent = MemorySink::new(rt.alloc());
+    silent.fail(0, 0)?;
+    expect_solve(&rt, "", &mut failing, &mut silent, "", 5)?;
+    expect_file(&rt, &failing, "cert", Some("(cert"));
+    expect_file(&rt, &failing, "plan", None);
+    Ok(())
+}
+
+#[test]
+fn faults_of_check_are_told(rt: HostRuntime) -> Result<(), Fail> {
+    let mut other = shelf(rt.alloc(), STEPS.as_bytes(), b"(define)")?;
+    expect_check(&rt, &mut other, "Refused: not built yet\n", 3)?;
+    assert_eq!(rt; other.calls(), 2);
+
+    let mut without = shelf(rt.alloc(), STEPS.as_bytes(), THREE.as_bytes())?;
+    expect_check(&rt, &mut without, "Refused: cannot read certificate\n", 4)?;
+
+    let mut failing = shelf(rt.alloc(), STEPS.as_bytes(), THREE.as_bytes())?;
+    failing.set("cert", NONE_BELOW_THREE.as_bytes())?;
+    failing.fail(1, 0)?;
+    expect_check(&rt, &mut failing, "Refused: cannot read problem\n", 4)?;
     Ok(())
 }
 

@@ -1,10 +1,22 @@
 //! Answers of `solve`, worked by hand.
-use crate::trial::{STEPS, THREE, expect_file, expect_solve, shelf};
+use crate::trial::{
+    NONE_BELOW_THREE, RISE, SINK, STEPS, THREE, expect_check, expect_file, expect_solve, shelf,
+};
 use np_io::MemorySink;
 use std::test::Fail;
 
-/// A pair, the budget where one is named, the answer, its status, and the plan that is put.
-type Row<'a> = (&'a str, &'a str, &'a str, &'a str, u8, Option<&'a str>);
+/// A pair, the budget where one is named, the answer, its status, the plan and the certificate that are put, and what
+/// `check` says of the certificate.
+type Row<'a> = (
+    &'a str,
+    &'a str,
+    &'a str,
+    &'a str,
+    u8,
+    Option<&'a str>,
+    &'a str,
+    &'a str,
+);
 
 const UP: &str = "(up)\n(up)\n(up)\n";
 
@@ -15,8 +27,20 @@ const JUMPS: &str = "(define (domain jumps) (:functions (x) (y))
 (:action jump :parameters () :precondition (and (>= (y) 2))
  :effect (and (increase (x) 3) (decrease (y) 2))))";
 
+/// What `check` says of it.
+const YES_THREE: &str = "Yes: no plan costs less than 3\n";
+
 const ROWS: &[Row<'static>] = &[
-    (STEPS, THREE, "", "Optimal 3, weak 0\n", 0, Some(UP)),
+    (
+        STEPS,
+        THREE,
+        "",
+        "Optimal 3, weak 0\n",
+        0,
+        Some(UP),
+        NONE_BELOW_THREE,
+        YES_THREE,
+    ),
     (
         STEPS,
         THREE,
@@ -24,16 +48,30 @@ const ROWS: &[Row<'static>] = &[
         "Budget spent 2, bound 2, weak 0\n",
         11,
         None,
+        "(certificate 1 (claim 2)\n(proofs)\n(entries
+(entry (facts) (values 0) 2 expanded)\n(entry (facts) (values 1) 1 expanded)))\n",
+        "Yes: no plan costs less than 2\n",
     ),
-    (STEPS, THREE, "3", "Optimal 3, weak 0\n", 0, Some(UP)),
     (
-        "(define (domain sink) (:functions (x)) (:action down :parameters ()
- :precondition (and (>= (x) 1)) :effect (and (decrease (x) 1))))",
-        "(define (problem p) (:domain sink) (:init (= (x) 2)) (:goal (and (>= (x) 3))))",
+        STEPS,
+        THREE,
+        "3",
+        "Optimal 3, weak 0\n",
+        0,
+        Some(UP),
+        NONE_BELOW_THREE,
+        YES_THREE,
+    ),
+    (
+        SINK,
+        RISE,
         "",
         "Unsolvable, weak 0\n",
         10,
         None,
+        "(certificate 1 (claim none)\n(proofs)\n(entries\n(entry (facts) (values 2) none expanded)
+(entry (facts) (values 1) none expanded)\n(entry (facts) (values 0) none expanded)))\n",
+        "Yes: there is no plan\n",
     ),
     (
         JUMPS,
@@ -42,6 +80,11 @@ const ROWS: &[Row<'static>] = &[
         "Optimal 2, weak 0\n",
         0,
         Some("(load)\n(jump)\n"),
+        "(certificate 1 (claim 2)\n(proofs)\n(entries
+(entry (facts) (values 0 0) 2 expanded)\n(entry (facts) (values 0 1) 1 expanded)
+(entry (facts) (values 2 0) 1 expanded)\n(entry (facts) (values 0 2) 0 expanded)
+(entry (facts) (values 2 1) 0 expanded)\n(entry (facts) (values 4 0) 0 expanded)))\n",
+        "Yes: no plan costs less than 2\n",
     ),
     (
         STEPS,
@@ -50,6 +93,8 @@ const ROWS: &[Row<'static>] = &[
         "Optimal 0, weak 0\n",
         0,
         Some(""),
+        "(certificate 1 (claim 0)\n(proofs)\n(entries))\n",
+        "Yes: no plan costs less than 0\n",
     ),
     (
         "; counting up\n(DEFINE(Domain Steps)(:FUNCTIONS(X))\r\n\t(:Action UP:parameters()
@@ -59,17 +104,20 @@ const ROWS: &[Row<'static>] = &[
         "Optimal 3, weak 0\n",
         0,
         Some(UP),
+        NONE_BELOW_THREE,
+        YES_THREE,
     ),
 ];
 
 #[test]
 fn solve_answers(rt: HostRuntime) -> Result<(), Fail> {
-    for (domain, problem, nodes, answer, status, plan) in ROWS {
+    for (domain, problem, nodes, answer, status, plan, certificate, yes) in ROWS {
         let mut shelf = shelf(rt.alloc(), domain.as_bytes(), problem.as_bytes())?;
         let mut sink = MemorySink::new(rt.alloc());
         expect_solve(&rt, nodes, &mut shelf, &mut sink, answer, *status)?;
         expect_file(&rt, &shelf, "plan", *plan);
-        expect_file(&rt, &shelf, "cert", None);
+        expect_file(&rt, &shelf, "cert", Some(*certificate));
+        expect_check(&rt, &mut shelf, yes, 0)?;
     }
     Ok(())
 }

@@ -12,6 +12,23 @@ pub const STEPS: &str = "(define (domain steps) (:functions (x))
 pub const THREE: &str =
     "(define (problem p) (:domain steps) (:init (= (x) 0)) (:goal (and (>= (x) 3))))";
 
+/// The certificate that none of its plans costs less than 3, as it is printed.
+pub const NONE_BELOW_THREE: &str = "(certificate 1 (claim 3)
+(proofs)
+(entries
+(entry (facts) (values 0) 3 expanded)
+(entry (facts) (values 1) 2 expanded)
+(entry (facts) (values 2) 1 expanded)))
+";
+
+/// The domain of a problem without a plan: each `down` lowers x by 1, while x is at least 1.
+pub const SINK: &str = "(define (domain sink) (:functions (x)) (:action down :parameters ()
+ :precondition (and (>= (x) 1)) :effect (and (decrease (x) 1))))";
+
+/// Its problem: x is 2, and at least 3 is wanted.
+pub const RISE: &str =
+    "(define (problem p) (:domain sink) (:init (= (x) 2)) (:goal (and (>= (x) 3))))";
+
 /// The words of a command.
 pub fn words(alloc: Global, texts: &[&str]) -> Result<Vec<String>, AllocError> {
     let mut words = Vec::new(alloc);
@@ -81,4 +98,22 @@ pub fn expect_file(rt: &impl Abort, shelf: &MemoryShelf, name: &str, want: Optio
         (Some(bytes), Some(text)) => assert_eq!(rt; bytes, text.as_bytes(), "{name}"),
         _ => panic!(rt; "{name}"),
     }
+}
+
+/// Checks what stands under `cert` for the pair on the shelf, and compares its status and what it pushed.
+pub fn expect_check(
+    rt: &(impl Abort + AllocGlobal),
+    shelf: &mut MemoryShelf,
+    answer: &str,
+    status: u8,
+) -> Result<(), AllocError> {
+    let mut sink = MemorySink::new(rt.alloc());
+    expect(
+        rt,
+        &["check", "d", "p", "cert"],
+        shelf,
+        &mut sink,
+        answer,
+        status,
+    )
 }

@@ -42,7 +42,7 @@ pub fn counters(
 }
 
 /// The values of the functions at the start.
-fn start_values(
+pub fn start_values(
     alloc: Global,
     valued: &IndexSet<Name>,
     values: &[Value],
@@ -137,7 +137,7 @@ fn changes(
 }
 
 /// What an effect adds.
-fn signed_amount(effect: &Effect) -> i128
+pub fn signed_amount(effect: &Effect) -> i128
     requires { IsEffect effect.now }
     ensures { result ≡ signed_amount effect.now }
 {
@@ -146,7 +146,7 @@ fn signed_amount(effect: &Effect) -> i128
 }
 
 /// The place of a name among the names, or past the last one where it isn't there.
-fn place(names: &IndexSet<Name>, name: &Name) -> usize
+pub fn place(names: &IndexSet<Name>, name: &Name) -> usize
     ensures { result ≡ place_of names.now.keys name.now }
 {
     names.get_index_of(name).unwrap_or(names.len())

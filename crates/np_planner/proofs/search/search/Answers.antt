@@ -1,10 +1,13 @@
-use Rattle.std.proofs.Common.{◌≡◌, true, false, [], ◌∷◌, length, get_or, All, subst, sym, ap, ◌∙◌, arith}
+use Rattle.std.proofs.Common.{◌≡◌, ◌^◌, ◌≤◌, true, false, [], ◌∷◌, length, get_or, All, subst, sym, ap, ◌∙◌, arith}
 use Rattle.std.specs.List.{list_all}
-use Rattle.np_planner.specs.Counters.{IsNeedOf, meets, is_goal, IsSpent}
+use Rattle.np_planner.specs.declared.search.End.TheVariants.{Spent}
+use Rattle.np_planner.specs.Counters.{IsNeedOf, meets, is_goal}
+use Rattle.np_planner.specs.Found.{expanded_in, IsEnd}
 use Rattle.np_planner.specs.SearchTree.{states_of, root, IsEntry, IsFrontier, IsPath}
 use Rattle.np_planner.proofs.SearchBegin.{frontier_first}
 use Rattle.np_planner.proofs.SearchSteps.{state_entry}
-use Rattle.np_planner.proofs.SearchAnswers.{blocked, shortest, spent}
+use Rattle.np_planner.proofs.SearchAnswers.{ends_blocked, ends_shortest, ends_spent}
+use Rattle.np_planner.proofs.SearchExpanded.{length-expanded_in}
 use Rattle.np_planner.proofs.search.search.Goals as goal
 
 pub loop-at-init : goal.loop-at-init
@@ -34,8 +37,13 @@ returns-then-meets_all c =
     let node = get_or tree.nodes c.loop-at.at root in
     let entry : IsEntry (states_of tree) tree.nodes c.loop-at.at values node = state_entry (states_of tree) tree.nodes c.loop-at.at values root f.tree.as_long c.values_at.ensures in
     let reached : is_goal c.args.counters.now values ≡ true = ap (list_all (meets values)) (sym c.as_slice-in-loop-at.ensures) ∙ sym c.meets_all.ensures ∙ c.if-meets_all.true in
-    shortest c.args.counters.now (states_of tree) tree.nodes c.loop-at.at f values node entry c.in_ok-path_to.field-0 reached
-    (subst (λ ns. IsPath ns c.loop-at.at c.in_ok-path_to.field-0) c.as_slice-then-meets_all.ensures c.in_ok-path_to.ensures)
+    let few : c.loop-at.at ≤ 2 ^ 24 = omega arith in
+    record {
+      end = ends_shortest c.args.counters.now (states_of tree) tree.nodes c.loop-at.at f few values node entry c.args.nodes c.in_ok-path_to.field-0 c.loop-at.invariant.early reached
+          (subst (λ ns. IsPath ns c.loop-at.at c.in_ok-path_to.field-0) c.as_slice-then-meets_all.ensures c.in_ok-path_to.ensures);
+      count = length-expanded_in (states_of tree) tree.nodes c.loop-at.at f.tree.as_long f.within;
+      few = c.loop-at.invariant.early;
+    }
 
 pub returns-then-at-nodes : goal.returns-then-at-nodes
 returns-then-at-nodes c =
@@ -43,8 +51,21 @@ returns-then-at-nodes c =
     let tree = c.loop-at.tree in
     let values = c.values_at.result.now in
     let missed : is_goal c.args.counters.now values ≡ false = ap (list_all (meets values)) (sym c.as_slice-in-loop-at.ensures) ∙ sym c.meets_all.ensures ∙ c.if-meets_all.false in
-    subst (λ n. IsSpent c.args.counters.now n c.node_at.result.depth) c.if-at-nodes.true
-    (spent c.args.counters.now (states_of tree) tree.nodes c.loop-at.at f values c.node_at.result (record { state = c.values_at.ensures; link = c.node_at.ensures }) missed)
+    let few : c.loop-at.at ≤ 2 ^ 24 = omega arith in
+    record {
+      end = subst (λ n. IsEnd c.args.counters.now n (expanded_in c.loop-at.at (states_of tree) tree.nodes) (Spent c.node_at.result.depth)) c.if-at-nodes.true
+          (ends_spent c.args.counters.now (states_of tree) tree.nodes c.loop-at.at f few values c.node_at.result (record { state = c.values_at.ensures; link = c.node_at.ensures }) missed);
+      count = length-expanded_in (states_of tree) tree.nodes c.loop-at.at f.tree.as_long f.within;
+      few = c.loop-at.invariant.early;
+    }
 
 pub returns : goal.returns
-returns c = blocked c.args.counters.now (states_of c.loop-at.tree) c.loop-at.tree.nodes c.loop-at.at c.loop-at.invariant.frontier (omega (arith, c.len.ensures, c.loop-at-test.false))
+returns c =
+    let f = c.loop-at.invariant.frontier in
+    let tree = c.loop-at.tree in
+    let few : c.loop-at.at ≤ 2 ^ 24 = omega arith in
+    record {
+      end = ends_blocked c.args.counters.now (states_of tree) tree.nodes c.loop-at.at f few c.args.nodes (omega (arith, c.len.ensures, c.loop-at-test.false));
+      count = length-expanded_in (states_of tree) tree.nodes c.loop-at.at f.tree.as_long f.within;
+      few = c.loop-at.invariant.early;
+    }

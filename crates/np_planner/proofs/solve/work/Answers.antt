@@ -11,4 +11,4 @@ outcome_of-requires-clause-in_range c =
 
 pub returns-in-Ok-clause-outcome : goal.returns-in-Ok-clause-outcome
 returns-in-Ok-clause-outcome c =
-    says_of c.args.domain.now c.args.problem.now c.in_ok-pair.pair c.args.nodes c.in-Ok.outcome c.in_ok-pair.ensures.pair c.in-Ok.ensures
+    says_of c.args.domain.now c.args.problem.now c.in_ok-pair.pair c.args.nodes c.in-Ok.outcome c.requires.short c.requires.few_nodes c.in_ok-pair.ensures.pair c.in-Ok.ensures

@@ -1,0 +1,6 @@
+pub mod Printing
+pub mod ReadingForms
+pub mod ReadingLaws
+pub mod ReadingNumbers
+pub mod ReadingTexts
+pub mod Written

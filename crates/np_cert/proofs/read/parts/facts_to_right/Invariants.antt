@@ -1,0 +1,12 @@
+use Rattle.std.proofs.Common.{◌≡◌, length, ◌^◌}
+use Rattle.np_lex.specs.Lexers.{pieces_left}
+use Rattle.np_cert.specs.ReadingSteps.{row}
+use Rattle.np_cert.specs.ReadingForm.{natural}
+use Rattle.np_cert.proofs.ReadingLaws.{with_front}
+use Rattle.np_cert.proofs.read.parts.facts_to_right.Given as goal
+
+abbrev pub invariant-row : goal.invariant-row
+invariant-row l = with_front l.found (row (natural (2 ^ 32)) (pieces_left l.rest)) ≡ row (natural (2 ^ 32)) (pieces_left l.fn.lexer)
+
+abbrev pub decreases-row : goal.decreases-row
+decreases-row l = length (pieces_left l.rest)

@@ -1,0 +1,29 @@
+use Rattle.std.proofs.Common.{rules}
+use mir.Syntax.{w128}
+use mir.Val.{SFits}
+use Rattle.std.proofs.lemmas.Int.{to_z-of_z}
+use Rattle.std.proofs.lemmas.Result.{err_from_is_err_and}
+use Rattle.np_lex.specs.Lexers.{pieces_left}
+use Rattle.np_cert.specs.ReadingSteps.{row}
+use Rattle.np_cert.specs.ReadingForm.{integer}
+use Rattle.np_cert.proofs.ReadingLaws.{loop_goes_on, loop_done, loop_refuses, is_shorter}
+use Rattle.np_cert.proofs.ReadingNumbers.{reads_integer}
+use Rattle.np_cert.proofs.read.parts.values_to_right.Goals as goal
+
+pub returns-in-Some : goal.returns-in-Some
+returns-in-Some c = loop_done reads_integer c.row.found (pieces_left c.row.rest) (pieces_left c.in-Some.after) (row integer (pieces_left c.args.lexer)) c.in-Some.ensures c.row.invariant
+
+pub returns-in_err-next : goal.returns-in_err-next
+returns-in_err-next c =
+    let p = err_from_is_err_and c.from_residual.result c.from_residual.ensures.1 in
+    rw (p.1, p.2) (loop_refuses reads_integer c.in_err-next.field-0.0 c.row.found (pieces_left c.row.rest) (row integer (pieces_left c.args.lexer)) c.in_default.ensures c.in_err-next.ensures c.row.invariant)
+
+pub row-smaller : goal.row-smaller
+row-smaller c = is_shorter reads_integer (pieces_left c.row.rest) c.in_ok-next.next (pieces_left c.in_ok-next.after) c.in_ok-next.ensures
+
+pub row-preserved : goal.row-preserved
+row-preserved c =
+    let fits : SFits w128 c.in_ok-next.next = search rules in
+    let pushed = rw (to_z-of_z w128 c.in_ok-next.next fits) at c.in_ok-push.ensures.ok in
+    rw pushed
+    (loop_goes_on reads_integer c.row.found (pieces_left c.row.rest) c.in_ok-next.next (pieces_left c.in_ok-next.after) (row integer (pieces_left c.args.lexer)) c.in_default.ensures c.in_ok-next.ensures c.row.invariant)

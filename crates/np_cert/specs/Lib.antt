@@ -1,0 +1,7 @@
+pub mod Valid
+pub mod Text
+pub mod Layout
+pub mod ReadingAnswers
+pub mod ReadingForm
+pub mod ReadingOnce
+pub mod ReadingSteps

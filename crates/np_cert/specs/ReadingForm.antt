@@ -1,0 +1,92 @@
+-- How each part of a certificate of the thin form is read.
+use Rattle.std.specs.Prelude.{ℕ, zero, suc, ◌^◌, ℤ, pos, negsuc, ◌==◌, ◌&&◌, nat_lt, List, [], ◌∷◌, Option, None, Some, codes, decimal, bytes_eq, if◌then◌else◌}
+use Rattle.std.specs.Option.{option_map}
+use Rattle.std.specs.Str.Parse.{digits_value}
+use Rattle.np_lex.specs.Tokens.{Lexeme, Piece}
+use Rattle.np_lex.specs.declared.token.Kind.TheVariants.{Name, Number as NumberKind}
+use Rattle.np_cert.specs.declared.certificate.Limit.{Limit}
+use Rattle.np_cert.specs.declared.certificate.Limit.TheVariants.{Number, Absent}
+use Rattle.np_cert.specs.declared.certificate.Why.TheVariants.{Expanded}
+use Rattle.np_cert.specs.declared.certificate.Entry.{Entry}
+use Rattle.np_cert.specs.declared.certificate.Certificate.{Certificate}
+use Rattle.np_cert.specs.Text.{most}
+use Rattle.np_cert.specs.ReadingSteps.{Outcome, Reader, and_then, same_kind, next, expect, right, open_with, behind, before, both, made, row}
+
+-- a lexeme that is a word of the form
+abbrev pub named : List ℕ → Lexeme
+named text = record { kind = Name; text = text }
+
+abbrev pub numeral : List ℕ → Lexeme
+numeral text = record { kind = NumberKind; text = text }
+
+-- the number below the bound that the text is the decimal of
+unfoldable pub natural_of : ℕ → List ℕ → Option ℕ
+natural_of bound text =
+    if nat_lt (digits_value 10 text) bound && bytes_eq (decimal (digits_value 10 text)) text then Some (digits_value 10 text) else None
+
+-- the number below zero of this size; a size of 0 has none
+abbrev pub below_zero : Option ℕ → Option ℤ
+below_zero None = None
+below_zero (Some zero) = None
+below_zero (Some (suc n)) = Some (negsuc n)
+
+-- the number that the text says, with `-` in front where it is below 0
+unfoldable pub integer_of : List ℕ → Option ℤ
+integer_of [] = None
+integer_of (first ∷ digits) = if first == 45 then below_zero (natural_of most digits) else option_map pos (natural_of most (first ∷ digits))
+
+-- the value with what stands behind it
+abbrev pub in_front : {A : Type 0} → Option A → List Piece → Outcome A
+in_front None rest = None
+in_front (Some a) rest = Some (a, rest)
+
+-- the lexeme as what its text says, where it is a number
+abbrev pub number_by : {A : Type 0} → (List ℕ → Option A) → Lexeme → Reader A
+number_by value lexeme rest = if same_kind lexeme.kind NumberKind then in_front (value lexeme.text) rest else None
+
+unfoldable pub natural : ℕ → Reader ℕ
+natural bound pieces = and_then (next pieces) (number_by (natural_of bound))
+
+unfoldable pub integer : Reader ℤ
+integer pieces = and_then (next pieces) (number_by integer_of)
+
+-- none where the word is there, or else the other
+abbrev pub none_or : Outcome (Unit {0}) → Outcome Limit → Outcome Limit
+none_or None other = other
+none_or (Some x) other = Some (Absent, x.1)
+
+-- a number, or `none`
+unfoldable pub limit : Reader Limit
+limit pieces = none_or (expect (named (codes "none")) pieces) (made (λ n. Number n) (natural most) pieces)
+
+-- (facts fact ..)
+unfoldable pub facts : Reader (List ℕ)
+facts = behind (open_with (named (codes "facts"))) (row (natural (2 ^ 32)))
+
+-- (values value ..)
+unfoldable pub values : Reader (List ℤ)
+values = behind (open_with (named (codes "values"))) (row integer)
+
+-- (entry facts values bound expanded)
+unfoldable pub entry : Reader Entry
+entry =
+    behind (open_with (named (codes "entry"))) (before (made (λ x. record { state = record { facts = x.0; values = x.1.0 }; bound = x.1.1; why = Expanded })
+    (both facts (both values (before limit (named (codes "expanded")))))) right)
+
+-- (claim limit)
+unfoldable pub claim : Reader Limit
+claim = behind (open_with (named (codes "claim"))) (before limit right)
+
+-- (proofs)
+unfoldable pub no_proofs : Reader (Unit {0})
+no_proofs = behind (open_with (named (codes "proofs"))) (expect right)
+
+-- (entries entry ..)
+unfoldable pub entries : Reader (List Entry)
+entries = behind (open_with (named (codes "entries"))) (row entry)
+
+-- (certificate 1 claim proofs entries)
+unfoldable pub certificate : Reader Certificate
+certificate =
+    behind (open_with (named (codes "certificate"))) (behind (expect (numeral (codes "1")))
+    (before (made (λ x. record { claim = x.0; proofs = []; entries = x.1 }) (both claim (behind no_proofs entries))) right))

@@ -1,0 +1,7 @@
+pub mod ClaimBounds
+pub mod OneVerdict
+pub mod Ascending
+pub mod LookUps
+pub mod Checks
+pub mod Faults
+pub mod Counting

@@ -1,0 +1,5 @@
+pub mod Verdicts
+pub mod Bounds
+pub mod Laws
+pub mod First
+pub mod Steps

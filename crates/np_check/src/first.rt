@@ -1,0 +1,61 @@
+//! The first entry of each state.
+ghost use Rattle.std.specs.Prelude.{◌≡◌, length, IfOk, MatchOption};
+
+use indexmap::IndexMap;
+use np_cert::{Entry, Limit};
+use np_flat::FlatState;
+use std::alloc::{AllocError, Global};
+use std::marker::Model;
+
+/// Entries, with the number of the first one of each state. Contracts see the entries.
+#[derive(Drop)]
+pub struct FirstEntries<'a> {
+    entries: &'a [Entry],
+    numbers: IndexMap<&'a FlatState, usize>,
+}
+
+impl<'a> Model for FirstEntries<'a> {
+    ghost use Rattle.std.specs.Prelude.{List};
+    ghost use Rattle.np_cert.specs.declared.certificate.Entry.{Entry};
+    ghost use Rattle.np_check.specs.First.{AreFirst};
+
+    ghost Value = { List Entry };
+
+    ghost view = { λ f. f.entries.now };
+
+    ghost invariant = { λ f. AreFirst f.numbers f.entries.now 0 };
+}
+
+impl<'a> FirstEntries<'a> {
+    ghost use Rattle.np_cert.specs.Valid.{bound_at};
+    ghost use Rattle.np_check.specs.First.{HasNone, IsFirst};
+
+    /// The entries, each put in once, the last one first, so that the number of the first one stays. Want of memory is an
+    /// error.
+    pub fn new(alloc: Global, entries: &'a [Entry]) -> Result<FirstEntries<'a>, AllocError>
+        ensures { IfOk result (λ f. f ≡ entries.now) }
+    {
+        let mut numbers = IndexMap::new(alloc);
+        for number in (0..entries.len()).rev() {
+            numbers.insert(&entries[number].state, number)?;
+        }
+        Ok(FirstEntries { entries, numbers })
+    }
+
+    /// The number of the first entry of a state.
+    pub fn number(&self, state: &FlatState) -> Option<usize>
+        ensures { MatchOption result (HasNone self.now state.now 0 (length self.now)) (IsFirst self.now state.now 0) }
+    {
+        self.numbers.get(&state).copied()
+    }
+
+    /// The bound of the first entry of a state; 0 where there is none.
+    pub fn bound(&self, state: &FlatState) -> Limit
+        ensures { result ≡ bound_at self.now state.now }
+    {
+        match self.number(state) {
+            Some(number) => self.entries[number].bound,
+            None => Limit::Number(0),
+        }
+    }
+}

@@ -1,0 +1,18 @@
+//! Laws of the definitions: what a valid certificate says, and that a certificate has at most one verdict.
+ghost use Rattle.np_check.specs.Bounds.{ClaimBounds};
+ghost use Rattle.np_check.specs.Laws.{FaultIsNoYes, OneVerdict};
+
+/// A valid certificate's claim bounds every plan.
+pub fn claim_bounds()
+    ensures { ClaimBounds }
+{}
+
+/// A certificate with a fault isn't valid.
+pub fn fault_is_no_yes()
+    ensures { FaultIsNoYes }
+{}
+
+/// A certificate has at most one verdict, want of memory apart.
+pub fn one_verdict()
+    ensures { OneVerdict }
+{}
