@@ -77,7 +77,7 @@ fn fault_at(
     ensures { IfOk result (λ fault. MatchOption fault (AreGood flat.now certificate.now.entries (number + 1)) (IsVerdict flat.now certificate.now)) }
 {
     let entry = &certificate.entries.as_slice()[number];
-    if first.number(&entry.state) != Some(number) {
+    if first.number_of(number, &entry.state) != Some(number) {
         return Ok(Some(Verdict::TwiceEntry(number)));
     }
     if !is_justified(alloc, flat, first, entry)? {

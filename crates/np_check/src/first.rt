@@ -12,21 +12,26 @@ use std::marker::Model;
 pub struct FirstEntries<'a> {
     entries: &'a [Entry],
     numbers: IndexMap<&'a FlatState, usize>,
+    // Whether no two entries have the same state.
+    distinct: bool,
 }
 
 impl<'a> Model for FirstEntries<'a> {
     ghost use Rattle.std.specs.Prelude.{List};
     ghost use Rattle.np_cert.specs.declared.certificate.Entry.{Entry};
-    ghost use Rattle.np_check.specs.First.{AreFirst};
+    ghost use Rattle.np_check.specs.First.{ArePlaced};
 
     ghost Value = { List Entry };
 
     ghost view = { λ f. f.entries.now };
 
-    ghost invariant = { λ f. AreFirst f.numbers f.entries.now 0 };
+    ghost invariant = { λ f. ArePlaced f.numbers f.distinct f.entries.now 0 };
 }
 
 impl<'a> FirstEntries<'a> {
+    ghost use Rattle.std.specs.Prelude.{Some, slice_get};
+    ghost use Rattle.std.specs.Option.{option_map};
+    ghost use Rattle.np_cert.specs.declared.certificate.Entry.{Entry};
     ghost use Rattle.np_cert.specs.Valid.{bound_at};
     ghost use Rattle.np_check.specs.First.{HasNone, IsFirst};
 
@@ -36,10 +41,16 @@ impl<'a> FirstEntries<'a> {
         ensures { IfOk result (λ f. f ≡ entries.now) }
     {
         let mut numbers = IndexMap::new(alloc);
+        let mut distinct = true;
         for number in (0..entries.len()).rev() {
-            numbers.insert(&entries[number].state, number)?;
+            let later = numbers.insert(&entries[number].state, number)?;
+            distinct &= later.is_none();
         }
-        Ok(FirstEntries { entries, numbers })
+        Ok(FirstEntries {
+            entries,
+            numbers,
+            distinct,
+        })
     }
 
     /// The number of the first entry of a state.
@@ -47,6 +58,18 @@ impl<'a> FirstEntries<'a> {
         ensures { MatchOption result (HasNone self.now state.now 0 (length self.now)) (IsFirst self.now state.now 0) }
     {
         self.numbers.get(&state).copied()
+    }
+
+    /// The number of the first entry of the state of an entry, which has this number.
+    #[tactic(auto, using(crate::proofs::LookUps::distinct_first))]
+    pub fn number_of(&self, number: usize, state: &FlatState) -> Option<usize>
+        requires { option_map (λ (e : Entry). e.state) (slice_get self.now number) ≡ Some state.now }
+        ensures { MatchOption result (HasNone self.now state.now 0 (length self.now)) (IsFirst self.now state.now 0) }
+    {
+        if self.distinct {
+            return Some(number);
+        }
+        self.number(state)
     }
 
     /// The bound of the first entry of a state; 0 where there is none.

@@ -1,7 +1,8 @@
 //! A whole file or piece through a reader or a writer, which may take or give a part at a time.
-ghost use Rattle.std.specs.Prelude.{◌≡◌, ◌≤◌, ◌<◌, List, ℕ, Option, IfOk, OnOk, IfSome, IsErrOf, length, vec_len};
+ghost use Rattle.std.specs.Prelude.{◌≡◌, ◌≤◌, ◌<◌, ◌↔◌, List, ℕ, Option, IfOk, OnOk, IfSome, IsErrOf, length, vec_len};
 ghost use Rattle.std.specs.Io.KnownBytes.{Appends, Consumes, WriteAppends};
 ghost use Rattle.std.specs.Io.{WritesAtMost};
+ghost use Rattle.std.specs.IoError.{error_kind};
 ghost use Rattle.np_io.specs.Streams.{AppendsPrefix};
 
 use crate::shelf::{Fetch, Give};
@@ -90,7 +91,8 @@ fn write_part<W: Write>(writer: &mut W, bytes: &[u8]) -> Result<usize, Give>
 
 /// Why nothing was fetched, after an error that changed nothing.
 pub(crate) fn fetch_fault(error: &Error) -> Fetch
-    ensures { ¬ (result ≡ Fetch.TooLong) }
+    ensures memory { result ≡ Fetch.Memory ↔ error_kind error.now ≡ ErrorKind.OutOfMemory }
+    ensures short { ¬ (result ≡ Fetch.TooLong) }
 {
     match error.kind() {
         ErrorKind::OutOfMemory => Fetch::Memory,

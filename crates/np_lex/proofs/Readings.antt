@@ -1,17 +1,19 @@
 -- What one reading does, from what stands at the lexer's offset.
-use Rattle.std.proofs.Common.{◌≡◌, ℕ, ◌+◌, ◌-◌, ◌<◌, ◌≤◌, List, [], ◌∷◌, length, drop, take, None, Some, refl, sym, ◌∙◌, ap, subst, arith, length-drop}
+use Rattle.std.proofs.Common.{◌≡◌, ℕ, ◌+◌, ◌-◌, ◌<◌, ◌≤◌, List, [], ◌∷◌, length, drop, take, not, None, Some, refl, sym, ◌∙◌, ap, subst, arith, length-drop}
+use Rattle.std.specs.List.{AllPass}
 use Rattle.std.proofs.lemmas.List.{take_rest}
 use Rattle.np_lex.specs.declared.reading.Lexer.{Lexer}
+use Rattle.np_lex.specs.declared.token.Kind.{Kind}
 use Rattle.np_lex.specs.declared.token.Place.{Place}
 use Rattle.np_lex.specs.declared.token.Token.{Token}
 use Rattle.np_lex.specs.declared.token.BadByte.{BadByte}
-use Rattle.np_lex.specs.Blanks.{blank_length}
+use Rattle.np_lex.specs.Blanks.{blank_length, is_line_feed}
 use Rattle.np_lex.specs.FirstToken.{first_token}
 use Rattle.np_lex.specs.LongestToken.{TakesLongest, IsLongestToken, BeginsWithNoToken}
 use Rattle.np_lex.specs.Tokens.{Next, taken, bad_at, ended, place_of, begun_at, taken_at, and_then, tokens_from, pieces_in, with_token, span_of, lexeme_of, word}
 use Rattle.np_lex.specs.Lexers.{bytes_of, tokens_left, pieces_left, GivesToken, FindsEnd, FindsBadByte}
 use Rattle.np_lex.proofs.Streams.{tokens_from-step, first_token-range, TakesUpTo}
-use Rattle.np_lex.proofs.LongestLaw.{first_token-longest, token_is_ascii}
+use Rattle.np_lex.proofs.LongestLaw.{first_token-longest, token_is_ascii, token_in_line}
 
 -- where the lexer's next token would begin
 abbrev pub start_of : Lexer → ℕ
@@ -125,3 +127,10 @@ gives_token old new token n within first from to bytes offset some place =
       ascii = token_is_ascii token.kind (take (token.to - token.from) (drop token.from old.bytes.now)) longest.is_token;
       longest = longest;
     }
+
+-- no byte of the token that is begun ends a line
+pub token_passes_line : (old ahead : Lexer) (kind : Kind) (n : ℕ) → first_token (rest_of old) ≡ Some (kind, n) → ahead.offset ≡ start_of old → ahead.bytes ≡ old.bytes → AllPass (λ b. not (is_line_feed b)) (take n (drop ahead.offset ahead.bytes.now))
+token_passes_line old ahead kind n first offset bytes =
+    let longest : IsLongestToken kind n (rest_of old) = subst (TakesLongest (rest_of old)) first (first_token-longest (rest_of old)) in
+    subst (λ (xs : List ℕ). AllPass (λ b. not (is_line_feed b)) (take n xs)) (λ i. drop ((sym offset) i) ((sym bytes) i).now)
+    (token_in_line kind (take n (rest_of old)) longest.is_token)

@@ -1,7 +1,7 @@
 //! Reading tokens one by one.
 
-ghost use Rattle.std.specs.Prelude.{◌≡◌, ◌<◌, ◌≤◌, ◌^◌, not, length, take};
-ghost use Rattle.std.specs.List.{count_by, suffix_len};
+ghost use Rattle.std.specs.Prelude.{◌≡◌, ◌+◌, ◌<◌, ◌≤◌, ◌^◌, not, length, take, drop};
+ghost use Rattle.std.specs.List.{AllPass, count_by, suffix_len};
 ghost use Rattle.np_lex.specs.Blanks.{is_line_feed};
 
 use crate::blanks::blank_length;
@@ -62,13 +62,12 @@ impl<'a> Lexer<'a> {
         let Some((kind, length)) = first_token(rest) else {
             return Err(BadByte { place });
         };
-        let to = from + length;
-        ahead.skip_to(to);
+        ahead.skip_in_line(length);
         *self = ahead;
         Ok(Some(Token {
             kind,
             from,
-            to,
+            to: from + length,
             place,
         }))
     }
@@ -117,6 +116,22 @@ impl<'a> Lexer<'a> {
             line: self.lines + 1,
             column: self.columns + 1,
         }
+    }
+
+    /// Reads so many bytes, none of which ends a line.
+    #[tactic(auto, using(crate::proofs::Lines::in_line_adds, crate::proofs::Lines::columns_le))]
+    fn skip_in_line(&mut self, count: usize)
+        requires in_range { self.old.offset + count ≤ length self.old.bytes.now }
+        requires in_line { AllPass (λ b. not (is_line_feed b)) (take count (drop self.old.offset self.old.bytes.now)) }
+        ensures offset { self.new.offset ≡ self.old.offset + count }
+        ensures bytes { self.new.bytes ≡ self.old.bytes }
+    {
+        *self = Lexer {
+            bytes: self.bytes,
+            offset: self.offset + count,
+            lines: self.lines,
+            columns: self.columns + count,
+        };
     }
 
     /// Reads up to this offset.

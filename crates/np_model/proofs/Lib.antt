@@ -8,3 +8,4 @@ pub mod Rules
 pub mod Counter
 pub mod Numbers
 pub mod Formed
+pub mod Meanings

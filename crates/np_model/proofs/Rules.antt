@@ -86,7 +86,7 @@ metric_starts_at_zero task e f = rw (e, f, fold-Value Bool _ 0 []) refl
 
 -- types object, place, vehicle and truck, a truck being a vehicle; objects home, a place, and t, a truck; one action, which takes
 -- a vehicle and a place
-abbrev roads : Task
+abbrev pub roads : Task
 roads = record {
   types =
       record { name = codes "object"; parent = 0 } ∷ record { name = codes "place"; parent = 0 }

@@ -7,7 +7,7 @@ ghost use Rattle.np_cert.specs.ReadingSteps as steps;
 ghost use Rattle.np_cert.specs.ReadingForm as form;
 
 use super::fault::CertFault;
-use super::words::{Read, expect, fact, integer, limit, open, past_right, right};
+use super::words::{Read, expect, fact, integer, limit, next, open, past_right, right};
 use crate::certificate::{Entry, Limit, Why};
 use np_flat::FlatState;
 use np_lex::{Kind, Lexer};
@@ -21,11 +21,12 @@ fn facts_to_right(alloc: Global, lexer: Lexer<'_>) -> Read<'_, Items<u32>>
     let mut found = Items::new(alloc);
     let mut rest = lexer;
     'row: loop {
-        if let Some(after) = past_right(rest) {
+        let ahead = next(rest);
+        if let Some(after) = past_right(rest, &ahead) {
             return Ok((found, after));
         }
-        let (next, after) = fact(rest)?;
-        found.push(next)?;
+        let (value, after) = fact(rest, &ahead)?;
+        found.push(value)?;
         rest = after;
     }
 }
@@ -46,11 +47,12 @@ fn values_to_right(alloc: Global, lexer: Lexer<'_>) -> Read<'_, Items<i128>>
     let mut found = Items::new(alloc);
     let mut rest = lexer;
     'row: loop {
-        if let Some(after) = past_right(rest) {
+        let ahead = next(rest);
+        if let Some(after) = past_right(rest, &ahead) {
             return Ok((found, after));
         }
-        let (next, after) = integer(rest)?;
-        found.push(next)?;
+        let (value, after) = integer(rest, &ahead)?;
+        found.push(value)?;
         rest = after;
     }
 }
@@ -92,11 +94,11 @@ fn entries_to_right(alloc: Global, lexer: Lexer<'_>) -> Read<'_, Items<Entry>>
     let mut found = Items::new(alloc);
     let mut rest = lexer;
     'row: loop {
-        if let Some(after) = past_right(rest) {
+        if let Some(after) = past_right(rest, &next(rest)) {
             return Ok((found, after));
         }
-        let (next, after) = entry(alloc, rest)?;
-        found.push(next)?;
+        let (value, after) = entry(alloc, rest)?;
+        found.push(value)?;
         rest = after;
     }
 }

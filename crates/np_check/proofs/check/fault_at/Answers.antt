@@ -16,7 +16,7 @@ returns c =
     slice_get_read entries (length entries) n e refl c.requires.within (subst (λ (es : List Entry). e ≡ get_or es n e) c.as_slice.ensures c.index-as_slice-number.is)
     in
     let there_first : slice_get c.args.first.now n ≡ Some e = ap (λ (es : List Entry). slice_get es n) same ∙ there in
-    let once = once_first c.args.first.now n e c.number.result there_first c.number.ensures c.if-ne.ensures in
+    let once = once_first c.args.first.now n e c.number_of.result there_first c.number_of.ensures c.if-ne.ensures in
     good_more task entries n e there c.requires.before
     (λ r. once (subst (λ (es : List Entry). IsRepeated es n) (sym same) r))
     (subst (λ (es : List Entry). IsJustified task es e) same (c.in_ok-is_justified.ensures.0 c.if-not-branch.false))

@@ -13,17 +13,17 @@ use Rattle.np_cert.proofs.read.parts.values_to_right.Goals as goal
 pub returns-in-Some : goal.returns-in-Some
 returns-in-Some c = loop_done reads_integer c.row.found (pieces_left c.row.rest) (pieces_left c.in-Some.after) (row integer (pieces_left c.args.lexer)) c.in-Some.ensures c.row.invariant
 
-pub returns-in_err-next : goal.returns-in_err-next
-returns-in_err-next c =
+pub returns-in_err-value : goal.returns-in_err-value
+returns-in_err-value c =
     let p = err_from_is_err_and c.from_residual.result c.from_residual.ensures.1 in
-    rw (p.1, p.2) (loop_refuses reads_integer c.in_err-next.field-0.0 c.row.found (pieces_left c.row.rest) (row integer (pieces_left c.args.lexer)) c.in_default.ensures c.in_err-next.ensures c.row.invariant)
+    rw (p.1, p.2) (loop_refuses reads_integer c.in_err-value.field-0.0 c.row.found (pieces_left c.row.rest) (row integer (pieces_left c.args.lexer)) c.in_default.ensures c.in_err-value.ensures c.row.invariant)
 
 pub row-smaller : goal.row-smaller
-row-smaller c = is_shorter reads_integer (pieces_left c.row.rest) c.in_ok-next.next (pieces_left c.in_ok-next.after) c.in_ok-next.ensures
+row-smaller c = is_shorter reads_integer (pieces_left c.row.rest) c.in_ok-value.value (pieces_left c.in_ok-value.after) c.in_ok-value.ensures
 
 pub row-preserved : goal.row-preserved
 row-preserved c =
-    let fits : SFits w128 c.in_ok-next.next = search rules in
-    let pushed = rw (to_z-of_z w128 c.in_ok-next.next fits) at c.in_ok-push.ensures.ok in
+    let fits : SFits w128 c.in_ok-value.value = search rules in
+    let pushed = rw (to_z-of_z w128 c.in_ok-value.value fits) at c.in_ok-push.ensures.ok in
     rw pushed
-    (loop_goes_on reads_integer c.row.found (pieces_left c.row.rest) c.in_ok-next.next (pieces_left c.in_ok-next.after) (row integer (pieces_left c.args.lexer)) c.in_default.ensures c.in_ok-next.ensures c.row.invariant)
+    (loop_goes_on reads_integer c.row.found (pieces_left c.row.rest) c.in_ok-value.value (pieces_left c.in_ok-value.after) (row integer (pieces_left c.args.lexer)) c.in_default.ensures c.in_ok-value.ensures c.row.invariant)

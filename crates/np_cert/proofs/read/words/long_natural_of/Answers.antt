@@ -1,8 +1,8 @@
 use Rattle.std.proofs.Common.{rules, subst, sym}
 use Rattle.std.specs.Str.Parse.{ParsesUnsigned}
 use Rattle.np_cert.proofs.ReadingNumbers.{natural_none, natural_some, natural_above, natural_unlike, says_utf8, says_parsed}
-use Rattle.np_cert.proofs.read.words.natural_of.Goals as goal
-use Rattle.np_cert.proofs.read.words.natural_of.Goals.{then-number-bound-via-then-number-bound, then-number-bound-via-else-number-bound+then-not-is_decimal}
+use Rattle.np_cert.proofs.read.words.long_natural_of.Goals as goal
+use Rattle.np_cert.proofs.read.words.long_natural_of.Goals.{then-number-bound-via-then-number-bound, then-number-bound-via-else-number-bound+then-not-is_decimal}
 
 pub returns-in_default-clause-value : goal.returns-in_default-clause-value
 returns-in_default-clause-value c =
