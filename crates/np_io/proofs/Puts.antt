@@ -67,6 +67,7 @@ bytes_differ a b e =
 pub noted_only : (old new : List Failure) (write : Bool) (name : List ℕ) → IsNoted old new write name → OnlyAt name (failures_of write old) (failures_of write new)
 noted_only old new write name h = record {
   later = omega (arith, noted_one old new write name h);
+  once = omega (arith, noted_one old new write name h);
   others = λ other differs.
       ap (count_by (is_failure write other)) h.last
       ∙ count_same (is_failure write other) old h.failure

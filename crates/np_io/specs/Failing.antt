@@ -1,5 +1,5 @@
 -- Calls that are to fail: pairs of a call's number and how many bytes it keeps.
-use Rattle.std.specs.Prelude.{◌≡◌, ℕ, ◌+◌, ◌-◌, ◌^◌, ◌==◌, List, Option, Some, None, min, find, take}
+use Rattle.std.specs.Prelude.{ℕ, ◌+◌, ◌-◌, ◌^◌, ◌==◌, List, Option, Some, None, min, find, take}
 use Rattle.std.specs.Option.{option_map}
 
 -- how many bytes the call of this number keeps, by the first pair of that number; none where it is not to fail

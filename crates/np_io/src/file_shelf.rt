@@ -78,7 +78,7 @@ impl<R: Files> Shelf for FileShelf<R> {
         ensures limited { IsErrOf result Fetch.TooLong → limit < usize.MAX }
         ensures failed { IsErrOf result Fetch.Failed →
             Rose (failures_of false (noted self.old) name.now) (failures_of false (noted self.new) name.now) }
-        ensures memory { IsErrOf result Fetch.Memory →
+        ensures unfailed { ¬ IsErrOf result Fetch.Failed →
             failures_of false (noted self.new) ≡ failures_of false (noted self.old) }
         ensures reads { OnlyAt name.now (failures_of false (noted self.old)) (failures_of false (noted self.new)) }
         ensures writes { failures_of true (noted self.new) ≡ failures_of true (noted self.old) }
@@ -100,7 +100,7 @@ impl<R: Files> Shelf for FileShelf<R> {
     fn put(&mut self, name: &str, bytes: &[u8]) -> Result<(), Give>
         ensures failed { IsErrOf result Give.Failed →
             Rose (failures_of true (noted self.old) name.now) (failures_of true (noted self.new) name.now) }
-        ensures memory { IsErrOf result Give.Memory →
+        ensures unfailed { ¬ IsErrOf result Give.Failed →
             failures_of true (noted self.new) ≡ failures_of true (noted self.old) }
         ensures writes { OnlyAt name.now (failures_of true (noted self.old)) (failures_of true (noted self.new)) }
         ensures reads { failures_of false (noted self.new) ≡ failures_of false (noted self.old) }

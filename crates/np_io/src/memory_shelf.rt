@@ -172,7 +172,7 @@ impl Shelf for MemoryShelf {
             Rose (failures_of false (noted self.old) name.now) (failures_of false (noted self.new) name.now) }
         ensures absent { IsAbsent (Some (held self.old)) name.now → ¬ IsErrOf result Fetch.Memory →
             Rose (failures_of false (noted self.old) name.now) (failures_of false (noted self.new) name.now) }
-        ensures memory { IsErrOf result Fetch.Memory →
+        ensures unfailed { ¬ IsErrOf result Fetch.Failed →
             failures_of false (noted self.new) ≡ failures_of false (noted self.old) }
         ensures reads { OnlyAt name.now (failures_of false (noted self.old)) (failures_of false (noted self.new)) }
         ensures writes { failures_of true (noted self.new) ≡ failures_of true (noted self.old) }
@@ -207,7 +207,7 @@ impl Shelf for MemoryShelf {
         ensures held { IsErrOf result Give.Memory → Some (held self.new) ≡ Some (held self.old) }
         ensures failed { IsErrOf result Give.Failed →
             Rose (failures_of true (noted self.old) name.now) (failures_of true (noted self.new) name.now) }
-        ensures memory { IsErrOf result Give.Memory →
+        ensures unfailed { ¬ IsErrOf result Give.Failed →
             failures_of true (noted self.new) ≡ failures_of true (noted self.old) }
         ensures writes { OnlyAt name.now (failures_of true (noted self.old)) (failures_of true (noted self.new)) }
         ensures reads { failures_of false (noted self.new) ≡ failures_of false (noted self.old) }

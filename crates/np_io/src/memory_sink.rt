@@ -1,6 +1,6 @@
 //! A sink in memory, some of whose calls fail.
 ghost use Rattle.std.specs.Prelude.{◌≡◌, ◌≤◌, ◌+◌, ◌-◌, ◌^◌, ◌++◌, ◌∷◌, [], Some, OnOk, OnErr, IsErrOf, min};
-ghost use Rattle.np_io.specs.Counts.{Rose};
+ghost use Rattle.np_io.specs.Counts.{RoseOnce};
 ghost use Rattle.np_io.specs.Failing.{kept_bytes};
 ghost use Rattle.np_io.specs.Pushes.{HasPushed, HasPushedPrefix};
 ghost use Rattle.np_io.specs.Told.{Changes};
@@ -84,8 +84,8 @@ impl Sink for MemorySink {
         ensures prefix { IsErrOf result Give.Failed →
             Changes (Some (pushed_bytes self.old)) (Some (pushed_bytes self.new)) (HasPushedPrefix bytes.now) }
         ensures held { IsErrOf result Give.Memory → Some (pushed_bytes self.new) ≡ Some (pushed_bytes self.old) }
-        ensures failed { IsErrOf result Give.Failed → Rose (fault_count self.old) (fault_count self.new) }
-        ensures memory { IsErrOf result Give.Memory → fault_count self.new ≡ fault_count self.old }
+        ensures failed { IsErrOf result Give.Failed → RoseOnce (fault_count self.old) (fault_count self.new) }
+        ensures unfailed { ¬ IsErrOf result Give.Failed → fault_count self.new ≡ fault_count self.old }
         ensures later { fault_count self.old ≤ fault_count self.new }
 
         // What this sink adds: each call has its number, and what it does is exact unless memory runs out.
@@ -95,7 +95,6 @@ impl Sink for MemorySink {
             HasPushed (kept_bytes (next_kept self.old) bytes.now) (pushed_bytes self.old) (pushed_bytes self.new) }
         ensures count { IsErrOf result Give.Failed →
             fault_count self.new ≡ min (fault_count self.old + 1) (2 ^ 64 - 1) }
-        ensures uncounted { ¬ IsErrOf result Give.Failed → fault_count self.new ≡ fault_count self.old }
     {
         let kept = kept_by_call(self.failing.as_slice(), self.calls);
         self.calls = self.calls.saturating_add(1);

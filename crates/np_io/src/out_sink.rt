@@ -1,6 +1,6 @@
 //! A sink that is standard output.
-ghost use Rattle.std.specs.Prelude.{◌≡◌, ◌≤◌, ◌+◌, ◌-◌, ◌^◌, None, OnOk, OnErr, IsErrOf, min};
-ghost use Rattle.np_io.specs.Counts.{Rose};
+ghost use Rattle.std.specs.Prelude.{◌≡◌, ◌≤◌, ◌+◌, ◌-◌, ◌^◌, None, OnErr, IsErrOf, min};
+ghost use Rattle.np_io.specs.Counts.{RoseOnce};
 ghost use Rattle.np_io.specs.OutSink.{fault_count};
 
 use crate::shelf::Give;
@@ -37,14 +37,13 @@ impl<R: Print> Sink for OutSink<R> {
     ghost faults = { λ s. fault_count s };
 
     fn push(&mut self, bytes: &[u8]) -> Result<(), Give>
-        ensures failed { IsErrOf result Give.Failed → Rose (fault_count self.old) (fault_count self.new) }
-        ensures memory { IsErrOf result Give.Memory → fault_count self.new ≡ fault_count self.old }
+        ensures failed { IsErrOf result Give.Failed → RoseOnce (fault_count self.old) (fault_count self.new) }
+        ensures unfailed { ¬ IsErrOf result Give.Failed → fault_count self.new ≡ fault_count self.old }
         ensures later { fault_count self.old ≤ fault_count self.new }
 
         // What this sink adds: it takes no memory, and exactly the calls that fail are counted.
         ensures only { ¬ IsErrOf result Give.Memory }
         ensures count { OnErr result (fault_count self.new ≡ min (fault_count self.old + 1) (2 ^ 64 - 1)) }
-        ensures uncounted { OnOk result (fault_count self.new ≡ fault_count self.old) }
     {
         let outcome = write_whole(&mut io::writer(&self.runtime), bytes);
         if outcome.is_err() {

@@ -54,16 +54,17 @@ pub trait Shelf {
     /// What stands under each name, where the shelf tells it.
     ghost files: { Self → Option Files };
 
-    /// How often a read of a name has failed. It never falls.
+    /// How often a fetch of a name has answered `Failed`. It never falls.
     ghost read_faults: { Self → List ℕ → ℕ };
 
-    /// How often a write of a name has failed. It never falls.
+    /// How often a put of a name has answered `Failed`. It never falls.
     ghost write_faults: { Self → List ℕ → ℕ };
 
     /// Reads the file under a name, if it has at most `limit` bytes.
     ///
-    /// `Failed` comes only where the read failed in this call, as that of a name under which nothing stands does.
-    /// `TooLong` comes only where the file is longer. No call changes a file.
+    /// `Failed` comes only where the read failed in this call, as that of a name under which nothing stands does. Then
+    /// that one failure is counted, unless the count stands at its end; every other answer leaves the counts. `TooLong`
+    /// comes only where the file is longer. No call changes a file.
     fn fetch(&mut self, alloc: Global, name: &str, limit: usize) -> Result<Vec<u8>, Fetch>
         ensures within { IfOk result (λ bytes. length bytes.items ≤ limit) }
         ensures bytes { IfOk result (λ bytes. IsHeld (files self.old) name.now bytes.items) }
@@ -76,15 +77,16 @@ pub trait Shelf {
             Rose (read_faults self.old name.now) (read_faults self.new name.now) }
         ensures absent { IsAbsent (files self.old) name.now → ¬ IsErrOf result Fetch.Memory →
             Rose (read_faults self.old name.now) (read_faults self.new name.now) }
-        ensures memory { IsErrOf result Fetch.Memory → read_faults self.new ≡ read_faults self.old }
+        ensures unfailed { ¬ IsErrOf result Fetch.Failed → read_faults self.new ≡ read_faults self.old }
 
         ensures reads { OnlyAt name.now (read_faults self.old) (read_faults self.new) }
         ensures writes { write_faults self.new ≡ write_faults self.old };
 
     /// Writes the bytes as the whole file under a name.
     ///
-    /// `Failed` comes only where the write failed in this call, and leaves a prefix of the bytes under the name.
-    /// After `Memory` nothing has changed. Other names stay in every case.
+    /// `Failed` comes only where the write failed in this call, and leaves a prefix of the bytes under the name. Then that
+    /// one failure is counted, unless the count stands at its end; every other answer leaves the counts, so a caller that
+    /// tries a failed write again can't hide it. After `Memory` nothing has changed. Other names stay in every case.
     fn put(&mut self, name: &str, bytes: &[u8]) -> Result<(), Give>
         ensures ok { OnOk result (Changes (files self.old) (files self.new) (HasPut name.now bytes.now)) }
         ensures prefix { IsErrOf result Give.Failed →
@@ -93,7 +95,7 @@ pub trait Shelf {
 
         ensures failed { IsErrOf result Give.Failed →
             Rose (write_faults self.old name.now) (write_faults self.new name.now) }
-        ensures memory { IsErrOf result Give.Memory → write_faults self.new ≡ write_faults self.old }
+        ensures unfailed { ¬ IsErrOf result Give.Failed → write_faults self.new ≡ write_faults self.old }
 
         ensures writes { OnlyAt name.now (write_faults self.old) (write_faults self.new) }
         ensures reads { read_faults self.new ≡ read_faults self.old };

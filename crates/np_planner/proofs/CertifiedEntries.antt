@@ -1,5 +1,7 @@
 -- The entries of expanded values are of states that are reached at their cost and at no smaller one, over a task and counters that have the same runs.
 use Rattle.std.proofs.Common.{◌≡◌, ℕ, ◌<◌, ◌≤◌, false, List, length, map, get_or, slice_get, All, Contains, Some, option_map, refl, sym, ap, ◌∙◌, subst, arith}
+use Rattle.std.specs.Prelude.{IsTrue}
+use Rattle.std.proofs.lemmas.Bool.Decides.{nat_tests}
 use Rattle.std.proofs.lemmas.Option.{slice_get-map}
 use Rattle.std.proofs.lemmas.Simd.{map-map}
 use Rattle.std.proofs.lemmas.List.{length-map}
@@ -8,8 +10,9 @@ use Rattle.np_flat.specs.declared.state.FlatState.{FlatState}
 use Rattle.np_flat.specs.declared.parts.Parts.{Parts}
 use Rattle.np_flat.specs.Plans.{run_from, cost_sum, Reaches}
 use Rattle.np_cert.specs.declared.certificate.Limit.{Limit}
-use Rattle.np_cert.specs.declared.certificate.Limit.TheVariants.{Number}
+use Rattle.np_cert.specs.declared.certificate.Limit.TheVariants.{Number, Absent}
 use Rattle.np_cert.specs.declared.certificate.Entry.{Entry}
+use Rattle.np_cert.specs.Valid.{at_most}
 use Rattle.np_planner.specs.declared.counters.Counters.{Counters}
 use Rattle.np_planner.specs.Counters.{Values, run, is_goal}
 use Rattle.np_planner.specs.SamePlans.{Fits}
@@ -35,6 +38,11 @@ pub record HaveSameRuns (task : Parts) (counters : Counters) : Type 0 where
 -- what stands at a place of a mapped list comes from what stands there
 from_mapped : {X Y : Type 0} (f : X → Y) (xs : List X) (i : ℕ) (y : Y) → slice_get (map f xs) i ≡ Some y → (x : X) × (slice_get xs i ≡ Some x) × (f x ≡ y)
 from_mapped f xs i y e = mapped_from f (slice_get xs i) y (sym (slice_get-map f xs i) ∙ e) (λ x there is. (x, there, is))
+
+-- what is near is at most the claim
+claimed : (claim : Limit) (moves : ℕ) → IsNear claim moves → IsTrue (at_most (Number moves) claim)
+claimed (Number bound) moves near = grind (arith, nat_tests)
+claimed Absent moves near = refl
 
 module _ (task : Parts) (counters : Counters) (same : HaveSameRuns task counters) where
   -- moves reach the flat state of their end, at the cost of their number
@@ -75,6 +83,7 @@ module _ (task : Parts) (counters : Counters) (same : HaveSameRuns task counters
                 let at : IsReachedAt e.0 other = reached_at e.0 (fits counters e reached) other reaches in
                 let h : e.1 ≤ length at.numbers = reached_late counters claim all closed expanded.distinct start near e there at.numbers at.runs in
                 omega (arith, at.count);
+            near = claimed claim e.1 (near e there);
             no_goal = same.alike.goal e.0 (fits counters e reached) ∙ All-contains (λ (x : Expanded). is_goal counters x.0 ≡ false) all e expanded.no_goal there;
             left = refl;
           }

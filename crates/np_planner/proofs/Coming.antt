@@ -89,16 +89,16 @@ module _ (call : Call) (command : Check) (claim : Limit) (valid : HoldsValid com
   -- a right answer is yes, or there is no memory
   yes_or_memory : (answer : Answer) → IsRightCheck command call.before call.after answer → (answer ≡ Yes claim) ⊎ (status_of answer ≡ 7)
   yes_or_memory Usage right = absurd right
-  yes_or_memory (CannotRead file.Domain) right = absurd (healthy.domain right.0.rose)
+  yes_or_memory (CannotRead file.Domain) right = absurd (healthy.domain right.rose)
   yes_or_memory (CannotRead file.Problem) right = absurd (healthy.problem right.0.rose)
   yes_or_memory (CannotRead file.Certificate) right = absurd (healthy.certificate right.failed.rose)
   yes_or_memory (CannotRead file.Plan) right = absurd right
-  yes_or_memory (TooLong file.Domain) right = absurd (too_long command.inputs.domain valid.domain_bytes valid.domain_is valid.domain_short right.0)
+  yes_or_memory (TooLong file.Domain) right = absurd (too_long command.inputs.domain valid.domain_bytes valid.domain_is valid.domain_short right)
   yes_or_memory (TooLong file.Problem) right = absurd (too_long command.inputs.problem valid.problem_bytes valid.problem_is valid.problem_short right.0)
   yes_or_memory (TooLong file.Certificate) right = absurd right
   yes_or_memory (TooLong file.Plan) right = absurd right
-  yes_or_memory NotBuilt (unwritten, inl (no_pair, reads)) = absurd (pair_there command claim call.before call.after valid no_pair)
-  yes_or_memory NotBuilt (unwritten, inr no_certificate) = absurd (certificate_there command claim call.before call.after valid no_certificate)
+  yes_or_memory NotBuilt (untouched, inl no_pair) = absurd (pair_there command claim call.before call.after valid no_pair)
+  yes_or_memory NotBuilt (untouched, inr no_certificate) = absurd (certificate_there command claim call.before call.after valid no_certificate)
   yes_or_memory (Optimal cost) right = absurd right
   yes_or_memory Unsolvable right = absurd right
   yes_or_memory (Spent nodes bound) right = absurd right
@@ -115,15 +115,15 @@ module _ (call : Call) (command : Check) (claim : Limit) (valid : HoldsValid com
   said_so status answer (inr e) own says = inr (own ∙ e)
 
   given : (status : ℕ) (answer : Answer) → IsRightCheck command call.before call.after answer → IsSaid answer call.out_before call.out_after status → ((status ≡ 0) × Says call (Yes claim)) ⊎ (status ≡ 7)
-  given status answer right (inl (inl p)) = said_so status answer (yes_or_memory answer right) p.own_status p.whole
-  given status answer right (inl (inr (inl c))) = absurd (healthy.sink c.rose)
+  given status answer right (inl (inl p)) = said_so status answer (yes_or_memory answer right) p.own_status (record { whole = p.whole; no_fault = p.no_fault })
+  given status answer right (inl (inr (inl c))) = absurd (healthy.sink c.rose.rose)
   given status answer right (inl (inr (inr u))) = inr u.memory_status
   given status answer right (inr (inl p)) = inr p.own_status
-  given status answer right (inr (inr (inl c))) = absurd (healthy.sink c.rose)
+  given status answer right (inr (inr (inl c))) = absurd (healthy.sink c.rose.rose)
   given status answer right (inr (inr (inr u))) = inr u.memory_status
 
 -- `check` on a valid certificate says yes, or ends for want of memory
 pub comes : (call : Call) (status : ℕ) → IsAnswered call status → (command : Check) (claim : Limit) → command_of call.words ≡ Some (checking command) → HoldsValid command claim call.before → HadNoFault call command → ((status ≡ 0) × Says call (Yes claim)) ⊎ (status ≡ 7)
 comes call status answered command claim words_are valid healthy =
     let right = subst (λ (o : Option Command). IsAnswer o call.before call.after answered.answer) words_are answered.right in
-    given call command claim valid healthy status answered.answer right.0 answered.said
+    given call command claim valid healthy status answered.answer right answered.said

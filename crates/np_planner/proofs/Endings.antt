@@ -1,7 +1,6 @@
 -- From what the calls of `solve` say to what its answer says.
 use Rattle.std.proofs.Common.{◌≡◌, ℕ, inl, inr, false, List, Option, Some, None, refl, sym, ◌∙◌, subst}
 use Rattle.std.specs.Str.{bytes_eq}
-use Rattle.std.proofs.lemmas.Cmp.{nat_list_eq_equiv}
 use Rattle.np_io.specs.Files.{Files, Changes, HasPut, HasPutPrefix}
 use Rattle.np_io.specs.Counts.{Rose, OnlyAt}
 use Rattle.np_cert.specs.declared.certificate.Limit.TheVariants.{Number}
@@ -15,9 +14,10 @@ use Rattle.np_planner.specs.Words.{Solve}
 use Rattle.np_planner.specs.FlatOf.{flat_of}
 use Rattle.np_planner.specs.Certified.{IsCertified}
 use Rattle.np_planner.specs.Outcomes.{claim_of, Says, IsOutcome, WasPut, WasCut, IsUnput, IsPut, Concludes, Finishes}
-use Rattle.np_planner.specs.Answers.{Shelf, AreRead, HavePair, HasPutBoth, HasPutFirst, WritesOnly, IsCheapest, IsUnwritten, WasSolved, PlanFailed, CertificateFailed, OnlyCertified, WasUnsolvable, WasSpent, IsRight}
+use Rattle.np_planner.specs.Answers.{Shelf, AreRead, HavePair, HasPutBoth, HasPutFirst, IsCheapest, IsFaultless, IsUntouched, WriteFailed, WasSolved, PlanFailed, CertificateFailed, OnlyCertified, WasUnsolvable, WasSpent, IsRight}
 use Rattle.np_planner.proofs.SamePlansTask.{is_task}
 use Rattle.np_planner.proofs.Proper.{is_proper}
+use Rattle.np_planner.proofs.Shelves.{same_shelf}
 
 -- two changes, one after the other
 both_change : (a b c : Option Files) (P Q R : Files → Files → Type 0) → ((x y z : Files) → P x y → Q y z → R x z) → Changes a b P → Changes b c Q → Changes a c R
@@ -27,6 +27,18 @@ both_change None (Some y) c P Q R f p q = absurd p
 both_change (Some x) None c P Q R f p q = absurd p
 both_change (Some x) (Some y) None P Q R f p q = absurd q
 both_change (Some x) (Some y) (Some z) P Q R f p q = f x y z p q
+
+-- nothing failed in the one nor in the other
+both_faultless : (a b c : Shelf) → IsFaultless a b → IsFaultless b c → IsFaultless a c
+both_faultless a b c first second = record { reads = second.reads ∙ first.reads; writes = second.writes ∙ first.writes }
+
+-- where nothing had failed before, one write failed in all
+failed_since : (name : List ℕ) (a b c : Shelf) → IsFaultless a b → WriteFailed name b c → WriteFailed name a c
+failed_since name a b c first second = record {
+  rose = subst (λ (counts : List ℕ → ℕ). Rose (counts name) (c.write_faults name)) first.writes second.rose;
+  writes = subst (λ (counts : List ℕ → ℕ). OnlyAt name counts c.write_faults) first.writes second.writes;
+  reads = second.reads ∙ first.reads;
+}
 
 module _ (command : Solve) (apart : bytes_eq command.plan command.certificate ≡ false) (certificate plan : List ℕ) where
   -- a plan that is put leaves the certificate
@@ -45,7 +57,7 @@ module _ (command : Solve) (apart : bytes_eq command.plan command.certificate �
     others = λ other c p. second.others other p ∙ first.others other c;
   }
 
-module _ (command : Solve) (apart : bytes_eq command.plan command.certificate ≡ false) (old after : Shelf) (domain problem : List ℕ) (both_read : AreRead command.inputs old domain problem) (unwritten : IsUnwritten old after)
+module _ (command : Solve) (apart : bytes_eq command.plan command.certificate ≡ false) (old : Shelf) (domain problem : List ℕ) (both_read : AreRead command.inputs old domain problem)
     (outcome : Outcome) (is : IsOutcome domain problem command.nodes outcome) where
   abbrev pair_of : HavePair command.inputs old
   pair_of = record {
@@ -61,30 +73,19 @@ module _ (command : Solve) (apart : bytes_eq command.plan command.certificate �
   abbrev text : List ℕ
   text = outcome.certificate.items
 
-  -- what is said since the files were read is said since the call began
-  since : (P : Files → Files → Type 0) (f : Option Files) → Changes after.files f P → Changes old.files f P
-  since P f changes = subst (λ (o : Option Files). Changes o f P) unwritten.files changes
-
-  counts_since : (name : List ℕ) (now : List ℕ → ℕ) → OnlyAt name after.write_faults now → OnlyAt name old.write_faults now
-  counts_since name now only = subst (λ (counts : List ℕ → ℕ). OnlyAt name counts now) unwritten.writes only
-
-  rose_since : (name : List ℕ) (now : List ℕ → ℕ) → Rose (after.write_faults name) (now name) → Rose (old.write_faults name) (now name)
-  rose_since name now rose = subst (λ (counts : List ℕ → ℕ). Rose (counts name) (now name)) unwritten.writes rose
-
   module _ (new : Shelf) where
-    failed : WasCut command.certificate text after new → CertificateFailed command old new
+    failed : WasCut command.certificate text old new → CertificateFailed command old new
     failed cut = record {
       pair = pair_of;
       claim = claim_of outcome.ending;
       certificate = text;
       certified = is.certified;
-      prefix = since (HasPutPrefix command.certificate text) new.files cut.prefix;
-      rose = rose_since command.certificate new.write_faults cut.rose;
-      writes = counts_since command.certificate new.write_faults cut.writes;
+      prefix = cut.prefix;
+      failed = cut.failed;
     }
 
     -- after a put of the certificate that didn't go well
-    unput_right : (answer : Answer) → IsUnput command.certificate text after new answer → IsRight command old new answer
+    unput_right : (answer : Answer) → IsUnput command.certificate text old new answer → IsRight command old new answer
     unput_right Usage unput = absurd unput
     unput_right (CannotRead f) unput = absurd unput
     unput_right (TooLong f) unput = absurd unput
@@ -101,34 +102,19 @@ module _ (command : Solve) (apart : bytes_eq command.plan command.certificate �
     unput_right (CannotWrite file.Problem) unput = absurd unput
     unput_right (CannotWrite file.Certificate) unput = failed unput
     unput_right (CannotWrite file.Plan) unput = absurd unput
-    unput_right OutOfMemory unput = inl (record { files = unput.files ∙ unwritten.files; writes = unput.writes ∙ unwritten.writes })
+    unput_right OutOfMemory unput = inl unput
 
-  module _ (between : Shelf) (put : WasPut command.certificate text after between) where
-    there : Changes old.files between.files (HasPut command.certificate text)
-    there = since (HasPut command.certificate text) between.files put.there
-
-    counts : OnlyAt command.certificate old.write_faults between.write_faults
-    counts = counts_since command.certificate between.write_faults put.writes
-
+  module _ (between : Shelf) (put : WasPut command.certificate text old between) where
     module _ (new : Shelf) where
-      both_counts : OnlyAt command.plan between.write_faults new.write_faults → WritesOnly command old.write_faults new.write_faults
-      both_counts only name c p = only.others name p ∙ counts.others name c
-
-      rose_both : Rose (between.write_faults command.plan) (new.write_faults command.plan) → Rose (old.write_faults command.plan) (new.write_faults command.plan)
-      rose_both rose = subst (λ (count : ℕ). Rose count (new.write_faults command.plan)) (counts.others command.plan other_name) rose
-        where
-          other_name : bytes_eq command.certificate command.plan ≡ false
-          other_name = nat_list_eq_equiv.symm command.certificate command.plan ∙ apart
-
-      kept : IsUnwritten between new → OnlyCertified command old new
-      kept same = record {
+      kept : IsUntouched between new → OnlyCertified command old new
+      kept same = subst (OnlyCertified command old) (sym (same_shelf between new same)) (record {
         pair = pair_of;
         claim = claim_of outcome.ending;
         certificate = text;
         certified = is.certified;
-        put = subst (λ (f : Option Files). Changes old.files f (HasPut command.certificate text)) (sym same.files) there;
-        writes = subst (λ (now : List ℕ → ℕ). OnlyAt command.certificate old.write_faults now) (sym same.writes) counts;
-      }
+        put = put.there;
+        faultless = put.faultless;
+      })
 
       module _ (plan : List ℕ) (cost : ℕ) (certified : IsCertified (flat_of is.domain is.problem) command.nodes (Number cost) text) (cheapest : IsCheapest is.domain is.problem plan cost) where
         solved : (c : ℕ) → c ≡ cost → WasPut command.plan plan between new → WasSolved command c old new
@@ -138,8 +124,8 @@ module _ (command : Solve) (apart : bytes_eq command.plan command.certificate �
           cheapest = subst (IsCheapest is.domain is.problem plan) (sym same) cheapest;
           certificate = text;
           certified = subst (λ (n : ℕ). IsCertified (flat_of is.domain is.problem) command.nodes (Number n) text) (sym same) certified;
-          put = both_change old.files between.files new.files (HasPut command.certificate text) (HasPut command.plan plan) (HasPutBoth command.certificate text command.plan plan) (put_both command apart text plan) there second.there;
-          writes = both_counts second.writes;
+          put = both_change old.files between.files new.files (HasPut command.certificate text) (HasPut command.plan plan) (HasPutBoth command.certificate text command.plan plan) (put_both command apart text plan) put.there second.there;
+          faultless = both_faultless old between new put.faultless second.faultless;
         }
 
         cut_off : WasCut command.plan plan between new → PlanFailed command old new
@@ -150,9 +136,8 @@ module _ (command : Solve) (apart : bytes_eq command.plan command.certificate �
           cheapest = cheapest;
           certificate = text;
           certified = certified;
-          prefix = both_change old.files between.files new.files (HasPut command.certificate text) (HasPutPrefix command.plan plan) (HasPutFirst command.certificate text command.plan plan) (put_first command apart text plan) there cut.prefix;
-          rose = rose_both cut.rose;
-          writes = both_counts cut.writes;
+          prefix = both_change old.files between.files new.files (HasPut command.certificate text) (HasPutPrefix command.plan plan) (HasPutFirst command.certificate text command.plan plan) (put_first command apart text plan) put.there cut.prefix;
+          failed = failed_since command.plan old between new put.faultless cut.failed;
         }
 
         -- after a put of the plan that the search found
@@ -181,12 +166,17 @@ module _ (command : Solve) (apart : bytes_eq command.plan command.certificate �
       concluded (ending.Plan lines cost) certified says answer done = put_right lines.items cost certified says answer done
       concluded ending.NoPlan certified says answer (said, same) =
           subst (λ (a : Answer). IsRight command old new a) (sym said) (subst (λ (s : Shelf). WasUnsolvable command old s) (sym same)
-          (record { pair = pair_of; unsolvable = says; certificate = text; certified = certified; put = there; writes = counts }))
+          (record { pair = pair_of; unsolvable = says; certificate = text; certified = certified; put = put.there; faultless = put.faultless }))
       concluded (ending.Spent bound) certified says answer (said, same) =
           subst (λ (a : Answer). IsRight command old new a) (sym said) (subst (λ (s : Shelf). WasSpent command command.nodes bound old s) (sym same)
-          (record { pair = pair_of; budget = refl; spent = says.0; certificate = text; certified = certified; spent_flat = says.1; put = there; writes = counts }))
+          (record { pair = pair_of; budget = refl; spent = says.0; certificate = text; certified = certified; spent_flat = says.1; put = put.there; faultless = put.faultless }))
 
-  -- after the work on both files
-  pub finished : (new : Shelf) (answer : Answer) → Finishes command outcome after new answer → IsRight command old new answer
-  finished new answer (inl unput) = unput_right new answer unput
-  finished new answer (inr done) = concluded done.between done.put new outcome.ending is.certified is.says answer done.concludes
+  finished_from : (new : Shelf) (answer : Answer) → Finishes command outcome old new answer → IsRight command old new answer
+  finished_from new answer (inl unput) = unput_right new answer unput
+  finished_from new answer (inr done) = concluded done.between done.put new outcome.ending is.certified is.says answer done.concludes
+
+-- after the work on both files
+pub finished : (command : Solve) → bytes_eq command.plan command.certificate ≡ false → (old after : Shelf) (domain problem : List ℕ) → AreRead command.inputs old domain problem → IsUntouched old after
+    → (outcome : Outcome) → IsOutcome domain problem command.nodes outcome → (new : Shelf) (answer : Answer) → Finishes command outcome after new answer → IsRight command old new answer
+finished command apart old after domain problem both_read untouched outcome is new answer done =
+    finished_from command apart old domain problem both_read outcome is new answer (subst (λ (s : Shelf). Finishes command outcome s new answer) (same_shelf old after untouched) done)

@@ -48,3 +48,4 @@ pub mod SearchKeys
 pub mod SearchMoves
 pub mod SearchPaths
 pub mod SearchSteps
+pub mod Shelves

@@ -4,9 +4,9 @@ use Rattle.np_planner.specs.declared.answer.Answer.{Answer}
 use Rattle.np_planner.specs.declared.answer.Answer.TheVariants.{Usage, CannotRead, TooLong, NotBuilt, Optimal, Unsolvable, Spent, Yes, ProofFails, Repeats, Unjustified, ClaimAbove, CannotWrite, OutOfMemory}
 use Rattle.np_planner.specs.Words.{Solve, Check, Command, solving, checking, command_of}
 use Rattle.np_planner.specs.Answer.{text_of, status_of}
-use Rattle.np_planner.specs.Answers.{IsRight, ReadsOnly, WasSpent}
-use Rattle.np_planner.specs.Checked.{IsRightCheck, ChecksOnly}
-use Rattle.np_planner.specs.Said.{IsSaid, IsCut, IsUnsaid}
+use Rattle.np_planner.specs.Answers.{IsRight, WasSpent}
+use Rattle.np_planner.specs.Checked.{IsRightCheck}
+use Rattle.np_planner.specs.Said.{IsSaid, IsPushed, IsCut, IsUnsaid}
 use Rattle.np_planner.proofs.Apart.{AreApart, solving_apart}
 use Rattle.np_planner.proofs.Checkable.{solved_checkable, unsolvable_checkable, spent_checkable}
 use Rattle.np_planner.proofs.Coming.{comes}
@@ -50,72 +50,75 @@ module _ (call : Call) where
     when p = record { command = command; words_are = words_are; holds = p }
 
     -- a right answer to the words of `solve` was said whole
-    solved : (answer : Answer) → Says call answer → IsRight command call.before call.after answer → ReadsOnly command.inputs call.before.read_faults call.after.read_faults → Promise call (status_of answer)
-    solved Usage says right reads = absurd right
-    solved (CannotRead f) says right reads = unread (refusal (solving command) words_are (CannotRead f) 4 refl says (right, reads))
-    solved (TooLong f) says right reads = refused (refusal (solving command) words_are (TooLong f) 3 refl says (right, reads))
-    solved NotBuilt says right reads = refused (refusal (solving command) words_are NotBuilt 3 refl says (right, reads))
-    solved (Optimal cost) says right reads = optimal (when (record { cost = cost; says = says; solved = right; checkable = solved_checkable command apart_names call.before call.after cost right; reads = reads }))
-    solved Unsolvable says right reads = unsolvable (when (record { says = says; unsolvable = right; checkable = unsolvable_checkable command apart_names call.before call.after right; reads = reads }))
-    solved (Spent nodes bound) says right reads = spent (when (record {
+    solved : (answer : Answer) → Says call answer → IsRight command call.before call.after answer → Promise call (status_of answer)
+    solved Usage says right = absurd right
+    solved (CannotRead f) says right = unread (refusal (solving command) words_are (CannotRead f) 4 refl says right)
+    solved (TooLong f) says right = refused (refusal (solving command) words_are (TooLong f) 3 refl says right)
+    solved NotBuilt says right = refused (refusal (solving command) words_are NotBuilt 3 refl says right)
+    solved (Optimal cost) says right = optimal (when (record { cost = cost; says = says; solved = right; checkable = solved_checkable command apart_names call.before call.after cost right }))
+    solved Unsolvable says right = unsolvable (when (record { says = says; unsolvable = right; checkable = unsolvable_checkable command apart_names call.before call.after right }))
+    solved (Spent nodes bound) says right = spent (when (record {
       bound = bound;
       says = subst (λ (n : ℕ). Says call (Spent n bound)) right.budget says;
       spent = subst (λ (n : ℕ). WasSpent command n bound call.before call.after) right.budget right;
       checkable = spent_checkable command apart_names call.before call.after nodes bound right;
-      reads = reads;
     }))
-    solved (Yes claim) says right reads = absurd right
-    solved (ProofFails proof) says right reads = absurd right
-    solved (Repeats entry) says right reads = absurd right
-    solved (Unjustified entry) says right reads = absurd right
-    solved ClaimAbove says right reads = absurd right
-    solved (CannotWrite f) says right reads = unwritten (inl (refusal (solving command) words_are (CannotWrite f) 5 refl says (right, reads)))
-    solved OutOfMemory says right reads = forgot (solving command) words_are says (right, reads)
+    solved (Yes claim) says right = absurd right
+    solved (ProofFails proof) says right = absurd right
+    solved (Repeats entry) says right = absurd right
+    solved (Unjustified entry) says right = absurd right
+    solved ClaimAbove says right = absurd right
+    solved (CannotWrite f) says right = unwritten (inl (refusal (solving command) words_are (CannotWrite f) 5 refl says right))
+    solved OutOfMemory says right = forgot (solving command) words_are says right
 
   module _ (command : Check) (words_are : command_of call.words ≡ Some (checking command)) where
     when_checking : {P : Check → Type 0} → P command → WhenChecking call P
     when_checking p = record { command = command; words_are = words_are; holds = p }
 
-    said_no : (answer : Answer) → status_of answer ≡ 6 → Says call answer → IsRightCheck command call.before call.after answer → ChecksOnly command call.before.read_faults call.after.read_faults → Promise call 6
-    said_no answer own says right reads = denied (when_checking (record { answer = answer; own_status = own; says = says; right = right; reads = reads }))
+    said_no : (answer : Answer) → status_of answer ≡ 6 → Says call answer → IsRightCheck command call.before call.after answer → Promise call 6
+    said_no answer own says right = denied (when_checking (record { answer = answer; own_status = own; says = says; right = right }))
 
     -- a right answer to the words of `check` was said whole
-    checked : (answer : Answer) → Says call answer → IsRightCheck command call.before call.after answer → ChecksOnly command call.before.read_faults call.after.read_faults → Promise call (status_of answer)
-    checked Usage says right reads = absurd right
-    checked (CannotRead f) says right reads = unread (refusal (checking command) words_are (CannotRead f) 4 refl says (right, reads))
-    checked (TooLong f) says right reads = refused (refusal (checking command) words_are (TooLong f) 3 refl says (right, reads))
-    checked NotBuilt says right reads = refused (refusal (checking command) words_are NotBuilt 3 refl says (right, reads))
-    checked (Optimal cost) says right reads = absurd right
-    checked Unsolvable says right reads = absurd right
-    checked (Spent nodes bound) says right reads = absurd right
-    checked (Yes claim) says right reads = agreed (when_checking (record { claim = claim; says = says; yes = right; reads = reads }))
-    checked (ProofFails proof) says right reads = said_no (ProofFails proof) refl says right reads
-    checked (Repeats entry) says right reads = said_no (Repeats entry) refl says right reads
-    checked (Unjustified entry) says right reads = said_no (Unjustified entry) refl says right reads
-    checked ClaimAbove says right reads = said_no ClaimAbove refl says right reads
-    checked (CannotWrite f) says right reads = absurd right
-    checked OutOfMemory says right reads = forgot (checking command) words_are says (right, reads)
+    checked : (answer : Answer) → Says call answer → IsRightCheck command call.before call.after answer → Promise call (status_of answer)
+    checked Usage says right = absurd right
+    checked (CannotRead f) says right = unread (refusal (checking command) words_are (CannotRead f) 4 refl says right)
+    checked (TooLong f) says right = refused (refusal (checking command) words_are (TooLong f) 3 refl says right)
+    checked NotBuilt says right = refused (refusal (checking command) words_are NotBuilt 3 refl says right)
+    checked (Optimal cost) says right = absurd right
+    checked Unsolvable says right = absurd right
+    checked (Spent nodes bound) says right = absurd right
+    checked (Yes claim) says right = agreed (when_checking (record { claim = claim; says = says; yes = right }))
+    checked (ProofFails proof) says right = said_no (ProofFails proof) refl says right
+    checked (Repeats entry) says right = said_no (Repeats entry) refl says right
+    checked (Unjustified entry) says right = said_no (Unjustified entry) refl says right
+    checked ClaimAbove says right = said_no ClaimAbove refl says right
+    checked (CannotWrite f) says right = absurd right
+    checked OutOfMemory says right = forgot (checking command) words_are says right
+
+  -- a text that was pushed whole was said
+  said_whole : (answer : Answer) (own : ℕ) {status : ℕ} → IsPushed (text_of answer) own call.out_before call.out_after status → Says call answer
+  said_whole answer own p = record { whole = p.whole; no_fault = p.no_fault }
 
   -- a right answer was said whole
   whole : (answer : Answer) → Says call answer → (o : Option Command) → command_of call.words ≡ o → IsAnswer o call.before call.after answer → Promise call (status_of answer)
   whole answer says None words_are right =
       subst (λ (a : Answer). Promise call (status_of a)) (sym right.0)
       (usage (record { no_command = words_are; says = subst (λ (a : Answer). Says call a) right.0 says; untouched = right.1 }))
-  whole answer says (Some (solving command)) words_are right = solved command words_are answer says right.0 right.1
-  whole answer says (Some (checking command)) words_are right = checked command words_are answer says right.0 right.1
+  whole answer says (Some (solving command)) words_are right = solved command words_are answer says right
+  whole answer says (Some (checking command)) words_are right = checked command words_are answer says right
 
   module _ (status : ℕ) (answer : Answer) (right : IsAnswer (command_of call.words) call.before call.after answer) where
     cut : (said : Answer) → (said ≡ answer) ⊎ (said ≡ OutOfMemory) → IsCut (text_of said) call.out_before call.out_after status → Promise call status
     cut said one c = subst (Promise call) (sym c.write_status) (unwritten (inr (record { answer = answer; right = right; said = said; one_of = one; prefix = c.prefix; rose = c.rose })))
 
     unsaid : IsUnsaid call.out_before call.out_after status → Promise call status
-    unsaid u = subst (Promise call) (sym u.memory_status) (memory (record { answer = answer; right = right; says = inl u.nothing }))
+    unsaid u = subst (Promise call) (sym u.memory_status) (memory (record { answer = answer; right = right; says = inl (λ i. record { pushed = u.nothing i; faults = u.no_fault i }) }))
 
     given : IsSaid answer call.out_before call.out_after status → Promise call status
-    given (inl (inl p)) = subst (Promise call) (sym p.own_status) (whole answer p.whole (command_of call.words) refl right)
+    given (inl (inl p)) = subst (Promise call) (sym p.own_status) (whole answer (said_whole answer (status_of answer) p) (command_of call.words) refl right)
     given (inl (inr (inl c))) = cut answer (inl refl) c
     given (inl (inr (inr u))) = unsaid u
-    given (inr (inl p)) = subst (Promise call) (sym p.own_status) (memory (record { answer = answer; right = right; says = inr p.whole }))
+    given (inr (inl p)) = subst (Promise call) (sym p.own_status) (memory (record { answer = answer; right = right; says = inr (said_whole OutOfMemory 7 p) }))
     given (inr (inr (inl c))) = cut OutOfMemory (inr refl) c
     given (inr (inr (inr u))) = unsaid u
 

@@ -96,19 +96,32 @@ pub record IsSpent (task : Task) (nodes bound : ℕ) : Type 0 where
   pub further_no_goal : is_goal task further ≡ false
   pub no_small_space : (all : List State) → ((s : State) (cost : Fraction) → Reaches task s cost → Contains all s) → nodes < length all
 
--- no file was written, and no write failed
-pub record IsUnwritten (old new : Shelf) : Type 0 where
-  pub files : new.files ≡ old.files
+-- no count of failed reads or writes has changed
+pub record IsFaultless (old new : Shelf) : Type 0 where
+  pub reads : new.read_faults ≡ old.read_faults
   pub writes : new.write_faults ≡ old.write_faults
 
--- a read of the name failed
+-- the files and all counts are what they were
+pub record IsUntouched (old new : Shelf) : Type 0 where
+  pub files : new.files ≡ old.files
+  pub faultless : IsFaultless old new
+
+-- one read of the name failed, and nothing else did; the files are what they were
 pub record ReadFailed (name : List ℕ) (old new : Shelf) : Type 0 where
-  pub unwritten : IsUnwritten old new
+  pub files : new.files ≡ old.files
   pub rose : Rose (old.read_faults name) (new.read_faults name)
+  pub reads : OnlyAt name old.read_faults new.read_faults
+  pub writes : new.write_faults ≡ old.write_faults
+
+-- one write of the name failed, and nothing else did
+pub record WriteFailed (name : List ℕ) (old new : Shelf) : Type 0 where
+  pub rose : Rose (old.write_faults name) (new.write_faults name)
+  pub writes : OnlyAt name old.write_faults new.write_faults
+  pub reads : new.read_faults ≡ old.read_faults
 
 -- more bytes than the limit stand under the name, where it is told
 pub record WasTooLong (name : List ℕ) (old new : Shelf) : Type 0 where
-  pub unwritten : IsUnwritten old new
+  pub untouched : IsUntouched old new
   pub longer : IsLonger old.files name most_bytes
 
 -- some bytes could be read
@@ -129,11 +142,8 @@ pub record HasPutFirst (certificate_name certificate plan_name plan : List ℕ) 
   pub plan_there : new plan_name ≡ Some (take kept plan)
   pub others : (other : List ℕ) → bytes_eq certificate_name other ≡ false → bytes_eq plan_name other ≡ false → new other ≡ old other
 
--- of the counts of writes only those of the certificate and of the plan may have changed
-abbrev pub WritesOnly : Solve → (List ℕ → ℕ) → (List ℕ → ℕ) → Type 0
-WritesOnly command before now = (name : List ℕ) → bytes_eq command.certificate name ≡ false → bytes_eq command.plan name ≡ false → now name ≡ before name
-
--- the pair has a cheapest plan of this cost; a certificate with the cost as its claim stands under CERT, and the plan's lines under PLAN
+-- the pair has a cheapest plan of this cost; a certificate with the cost as its claim stands under CERT, and the plan's lines under PLAN;
+-- nothing failed
 pub record WasSolved (command : Solve) (cost : ℕ) (old new : Shelf) : Type 0 where
   pub pair : HavePair command.inputs old
   pub plan : List ℕ
@@ -141,7 +151,7 @@ pub record WasSolved (command : Solve) (cost : ℕ) (old new : Shelf) : Type 0 w
   pub certificate : List ℕ
   pub certified : IsCertified (flat_of pair.domain pair.problem) command.nodes (Number cost) certificate
   pub put : Changes old.files new.files (HasPutBoth command.certificate certificate command.plan plan)
-  pub writes : WritesOnly command old.write_faults new.write_faults
+  pub faultless : IsFaultless old new
 
 -- the pair has a cheapest plan, and its certificate stands under CERT; but the write of the plan's lines failed, and a prefix of them may
 -- stand under PLAN
@@ -153,8 +163,7 @@ pub record PlanFailed (command : Solve) (old new : Shelf) : Type 0 where
   pub certificate : List ℕ
   pub certified : IsCertified (flat_of pair.domain pair.problem) command.nodes (Number cost) certificate
   pub prefix : Changes old.files new.files (HasPutFirst command.certificate certificate command.plan plan)
-  pub rose : Rose (old.write_faults command.plan) (new.write_faults command.plan)
-  pub writes : WritesOnly command old.write_faults new.write_faults
+  pub failed : WriteFailed command.plan old new
 
 -- the pair has a certificate; but its write failed, a prefix of it may stand under CERT, and nothing else was put
 pub record CertificateFailed (command : Solve) (old new : Shelf) : Type 0 where
@@ -163,28 +172,28 @@ pub record CertificateFailed (command : Solve) (old new : Shelf) : Type 0 where
   pub certificate : List ℕ
   pub certified : IsCertified (flat_of pair.domain pair.problem) command.nodes claim certificate
   pub prefix : Changes old.files new.files (HasPutPrefix command.certificate certificate)
-  pub rose : Rose (old.write_faults command.certificate) (new.write_faults command.certificate)
-  pub writes : OnlyAt command.certificate old.write_faults new.write_faults
+  pub failed : WriteFailed command.certificate old new
 
--- the certificate of the pair stands under CERT, and nothing else was put
+-- the certificate of the pair stands under CERT, nothing else was put, and nothing failed
 pub record OnlyCertified (command : Solve) (old new : Shelf) : Type 0 where
   pub pair : HavePair command.inputs old
   pub claim : Limit
   pub certificate : List ℕ
   pub certified : IsCertified (flat_of pair.domain pair.problem) command.nodes claim certificate
   pub put : Changes old.files new.files (HasPut command.certificate certificate)
-  pub writes : OnlyAt command.certificate old.write_faults new.write_faults
+  pub faultless : IsFaultless old new
 
--- the pair has no plan, and a certificate that says so stands under CERT
+-- the pair has no plan, and a certificate that says so stands under CERT; nothing else was put, and nothing failed
 pub record WasUnsolvable (command : Solve) (old new : Shelf) : Type 0 where
   pub pair : HavePair command.inputs old
   pub unsolvable : IsUnsolvable (task_of pair.domain pair.problem)
   pub certificate : List ℕ
   pub certified : IsCertified (flat_of pair.domain pair.problem) command.nodes Absent certificate
   pub put : Changes old.files new.files (HasPut command.certificate certificate)
-  pub writes : OnlyAt command.certificate old.write_faults new.write_faults
+  pub faultless : IsFaultless old new
 
--- the budget was spent on the pair, and a certificate with the bound as its claim stands under CERT, with as many entries as the budget
+-- the budget was spent on the pair, and a certificate with the bound as its claim stands under CERT, with as many entries as the budget;
+-- nothing else was put, and nothing failed
 pub record WasSpent (command : Solve) (nodes bound : ℕ) (old new : Shelf) : Type 0 where
   pub pair : HavePair command.inputs old
   pub budget : nodes ≡ command.nodes
@@ -193,38 +202,33 @@ pub record WasSpent (command : Solve) (nodes bound : ℕ) (old new : Shelf) : Ty
   pub certified : IsCertified (flat_of pair.domain pair.problem) nodes (Number bound) certificate
   pub spent_flat : IsSpentOn (flat_of pair.domain pair.problem) nodes bound certified.certificate.entries
   pub put : Changes old.files new.files (HasPut command.certificate certificate)
-  pub writes : OnlyAt command.certificate old.write_faults new.write_faults
-
--- no count of reads fell, and only those of the domain and the problem may have risen
-pub record ReadsOnly (inputs : Inputs) (before now : List ℕ → ℕ) : Type 0 where
-  pub later : (name : List ℕ) → before name ≤ now name
-  pub others : (name : List ℕ) → bytes_eq inputs.domain name ≡ false → bytes_eq inputs.problem name ≡ false → now name ≡ before name
+  pub faultless : IsFaultless old new
 
 -- the answer where one of the two files can't be had
 abbrev pub AreUnread : Inputs → Shelf → Shelf → Answer → Type 0
-AreUnread inputs old new (CannotRead Domain) = ReadFailed inputs.domain old new × OnlyAt inputs.domain old.read_faults new.read_faults
-AreUnread inputs old new (CannotRead Problem) = ReadFailed inputs.problem old new × (WasRead old inputs.domain × ReadsOnly inputs old.read_faults new.read_faults)
-AreUnread inputs old new (TooLong Domain) = WasTooLong inputs.domain old new × OnlyAt inputs.domain old.read_faults new.read_faults
-AreUnread inputs old new (TooLong Problem) = WasTooLong inputs.problem old new × (WasRead old inputs.domain × ReadsOnly inputs old.read_faults new.read_faults)
-AreUnread inputs old new OutOfMemory = IsUnwritten old new
+AreUnread inputs old new (CannotRead Domain) = ReadFailed inputs.domain old new
+AreUnread inputs old new (CannotRead Problem) = ReadFailed inputs.problem old new × WasRead old inputs.domain
+AreUnread inputs old new (TooLong Domain) = WasTooLong inputs.domain old new
+AreUnread inputs old new (TooLong Problem) = WasTooLong inputs.problem old new × WasRead old inputs.domain
+AreUnread inputs old new OutOfMemory = IsUntouched old new
 AreUnread inputs old new answer = ⊥
 
 -- whether an answer to `solve` is right, by what the shelf was before and is afterwards
 abbrev pub IsRight : Solve → Shelf → Shelf → Answer → Type 0
 IsRight command old new (CannotRead file) = AreUnread command.inputs old new (CannotRead file)
 IsRight command old new (TooLong file) = AreUnread command.inputs old new (TooLong file)
-IsRight command old new NotBuilt = IsUnwritten old new × HaveNoPair command.inputs old
+IsRight command old new NotBuilt = IsUntouched old new × HaveNoPair command.inputs old
 IsRight command old new (Optimal cost) = WasSolved command cost old new
 IsRight command old new Unsolvable = WasUnsolvable command old new
 IsRight command old new (Spent nodes bound) = WasSpent command nodes bound old new
 IsRight command old new (CannotWrite Certificate) = CertificateFailed command old new
 IsRight command old new (CannotWrite Plan) = PlanFailed command old new
-IsRight command old new OutOfMemory = IsUnwritten old new ⊎ OnlyCertified command old new
+IsRight command old new OutOfMemory = IsUntouched old new ⊎ OnlyCertified command old new
 IsRight command old new answer = ⊥
 
 -- the answer for a file whose bytes can't be had
 abbrev pub IsUnread : File → List ℕ → Shelf → Shelf → Answer → Type 0
 IsUnread file name old new (CannotRead f) = (f ≡ file) × ReadFailed name old new
 IsUnread file name old new (TooLong f) = (f ≡ file) × WasTooLong name old new
-IsUnread file name old new OutOfMemory = new.read_faults ≡ old.read_faults
+IsUnread file name old new OutOfMemory = IsUntouched old new
 IsUnread file name old new answer = ⊥

@@ -1,22 +1,25 @@
 -- What the certificate that `solve` puts says. What an entry by expansion is, and this way of writing it, are this project's own.
-use Rattle.std.specs.Prelude.{◌≡◌, ℕ, ◌≤◌, ◌<◌, false, List, length, map, All, Contains}
+use Rattle.std.specs.Prelude.{◌≡◌, ℕ, ◌≤◌, ◌<◌, false, List, length, map, All, Contains, IsTrue}
 use Rattle.np_flat.specs.declared.state.FlatState.{FlatState}
 use Rattle.np_flat.specs.declared.parts.Parts.{Parts}
 use Rattle.np_flat.specs.States.{is_goal}
 use Rattle.np_flat.specs.Plans.{Reaches}
 use Rattle.np_cert.specs.declared.certificate.Limit.{Limit}
+use Rattle.np_cert.specs.declared.certificate.Limit.TheVariants.{Number}
 use Rattle.np_cert.specs.declared.certificate.Entry.{Entry}
 use Rattle.np_cert.specs.declared.certificate.Certificate.{Certificate}
 use Rattle.np_cert.specs.Text.{Spells}
 use Rattle.np_cert.specs.Layout.{certificate_text}
-use Rattle.np_cert.specs.Valid.{IsValid}
+use Rattle.np_cert.specs.Valid.{IsValid, at_most}
 use Rattle.np_planner.specs.Evidence.{less}
 
--- the entry of an expanded state: no goal, reached at a cost and at no smaller one, and its bound is what that cost leaves of the claim
+-- the entry of an expanded state: it is no goal, is reached at this cost, which is at most the claim, and at no smaller one; its bound is what
+-- the cost leaves of the claim
 pub record IsExpandedEntry (task : Parts) (claim : Limit) (e : Entry) : Type 0 where
   pub cost : ℕ
   pub reached : Reaches task e.state cost
   pub cheapest : (other : ℕ) → Reaches task e.state other → cost ≤ other
+  pub near : IsTrue (at_most (Number cost) claim)
   pub no_goal : is_goal task e.state ≡ false
   pub left : e.bound ≡ less claim cost
 

@@ -1,6 +1,5 @@
 -- Which answers of `check` are right.
-use Rattle.std.specs.Prelude.{◌≡◌, ℕ, ◌≤◌, ◌⊎◌, pos, false, List, length, Option, Some}
-use Rattle.std.specs.Str.{bytes_eq}
+use Rattle.std.specs.Prelude.{◌≡◌, ℕ, ◌≤◌, ◌⊎◌, pos, List, length, Option, Some}
 use Rattle.np_io.specs.Files.{IsHeld}
 use Rattle.np_frac.specs.Fractions.{whole}
 use Rattle.np_model.specs.declared.task.Task.{Task}
@@ -22,7 +21,7 @@ use Rattle.np_planner.specs.FirstForm.{SpellsPair}
 use Rattle.np_planner.specs.Words.{Check}
 use Rattle.np_planner.specs.TaskOf.{task_of}
 use Rattle.np_planner.specs.FlatOf.{flat_of}
-use Rattle.np_planner.specs.Answers.{Shelf, most_bytes, HavePair, HaveNoPair, AreUnread, IsUnwritten, ReadFailed, ReadsOnly}
+use Rattle.np_planner.specs.Answers.{Shelf, most_bytes, HavePair, HaveNoPair, AreUnread, IsUntouched, ReadFailed}
 
 -- what a claim says of the plans of a task: none, of any length, costs less, or there is none
 abbrev pub IsTrueOf : Limit → Task → Type 0
@@ -43,46 +42,41 @@ pub record HaveNoCertificate (command : Check) (shelf : Shelf) : Type 0 where
   pub held : IsHeld shelf.files command.certificate bytes
   pub none : (c : Certificate) → Spells bytes c → ⊥
 
--- the files spell a pair, and the certificate is valid for its flat task; so the claim is true of the pair's plans
+-- the files spell a pair, and the certificate is valid for its flat task; so the claim is true of the pair's plans. Nothing failed
 pub record WasYes (command : Check) (claim : Limit) (old new : Shelf) : Type 0 where
   pub pair : HavePair command.inputs old
   pub written : HaveCertificate command.certificate old
   pub claim_is : written.certificate.claim ≡ claim
   pub valid : IsValid (flat_of pair.domain pair.problem) written.certificate
   pub true_claim : IsTrueOf claim (task_of pair.domain pair.problem)
-  pub unwritten : IsUnwritten old new
+  pub untouched : IsUntouched old new
 
--- the files spell a pair, and this is the first fault of the certificate for its flat task
+-- the files spell a pair, and this is the first fault of the certificate for its flat task. Nothing failed
 pub record WasNo (command : Check) (fault : Verdict) (old new : Shelf) : Type 0 where
   pub pair : HavePair command.inputs old
   pub written : HaveCertificate command.certificate old
   pub first : IsVerdict (flat_of pair.domain pair.problem) written.certificate fault
-  pub unwritten : IsUnwritten old new
+  pub untouched : IsUntouched old new
 
 -- the files spell a pair, and a read of the certificate failed
 pub record WasUnreadable (command : Check) (old new : Shelf) : Type 0 where
   pub pair : HavePair command.inputs old
   pub failed : ReadFailed command.certificate old new
 
--- whether an answer to `check` is right, by what the shelf was before and is afterwards; where the files spell no pair of the first form
--- the certificate isn't fetched
+-- whether an answer to `check` is right, by what the shelf was before and is afterwards; where the files spell no pair of the first form no
+-- count changes, so the certificate can't have been fetched in vain
 abbrev pub IsRightCheck : Check → Shelf → Shelf → Answer → Type 0
 IsRightCheck command old new (CannotRead file.Certificate) = WasUnreadable command old new
 IsRightCheck command old new (CannotRead file) = AreUnread command.inputs old new (CannotRead file)
 IsRightCheck command old new (TooLong file) = AreUnread command.inputs old new (TooLong file)
-IsRightCheck command old new NotBuilt = IsUnwritten old new × ((HaveNoPair command.inputs old × ReadsOnly command.inputs old.read_faults new.read_faults) ⊎ HaveNoCertificate command old)
+IsRightCheck command old new NotBuilt = IsUntouched old new × (HaveNoPair command.inputs old ⊎ HaveNoCertificate command old)
 IsRightCheck command old new (Yes claim) = WasYes command claim old new
 IsRightCheck command old new (ProofFails proof) = WasNo command (BadProof proof) old new
 IsRightCheck command old new (Repeats entry) = WasNo command (TwiceEntry entry) old new
 IsRightCheck command old new (Unjustified entry) = WasNo command (BadEntry entry) old new
 IsRightCheck command old new ClaimAbove = WasNo command BadClaim old new
-IsRightCheck command old new OutOfMemory = IsUnwritten old new
+IsRightCheck command old new OutOfMemory = IsUntouched old new
 IsRightCheck command old new answer = ⊥
-
--- no count of reads fell, and only those of the three files may have risen
-pub record ChecksOnly (command : Check) (before now : List ℕ → ℕ) : Type 0 where
-  pub later : (name : List ℕ) → before name ≤ now name
-  pub others : (name : List ℕ) → bytes_eq command.inputs.domain name ≡ false → bytes_eq command.inputs.problem name ≡ false → bytes_eq command.certificate name ≡ false → now name ≡ before name
 
 -- the shelf tells what it holds, and under the three names stand a pair of the first form and a certificate with this claim that is valid
 -- for its flat task

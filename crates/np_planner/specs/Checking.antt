@@ -16,7 +16,7 @@ use Rattle.np_planner.specs.declared.syntax.Domain.{Domain}
 use Rattle.np_planner.specs.declared.syntax.Problem.{Problem}
 use Rattle.np_planner.specs.FirstForm.{SpellsPair}
 use Rattle.np_planner.specs.FlatOf.{flat_of}
-use Rattle.np_planner.specs.Answers.{Shelf, ReadFailed}
+use Rattle.np_planner.specs.Answers.{Shelf, ReadFailed, IsUntouched}
 
 -- the bytes spell a pair of the first form, and this is its flat task
 pub record IsFlatOf (domain_bytes problem_bytes : List ℕ) (flat : Parts) : Type 0 where
@@ -52,15 +52,16 @@ IsJudged flat bytes answer = ⊥
 -- the answer where the bytes of a certificate can't be had
 abbrev pub IsNotFetched : List ℕ → Shelf → Shelf → Answer → Type 0
 IsNotFetched name old new (CannotRead CertificateFile) = ReadFailed name old new
-IsNotFetched name old new OutOfMemory = new.read_faults ≡ old.read_faults
+IsNotFetched name old new OutOfMemory = IsUntouched old new
 IsNotFetched name old new answer = ⊥
 
 -- the answer is to the bytes under the name
-pub record IsToHeld (flat : Parts) (name : List ℕ) (old : Shelf) (answer : Answer) : Type 0 where
+pub record IsToHeld (flat : Parts) (name : List ℕ) (old new : Shelf) (answer : Answer) : Type 0 where
+  pub untouched : IsUntouched old new
   pub bytes : List ℕ
   pub held : IsHeld old.files name bytes
   pub judged : IsJudged flat bytes answer
 
 -- the answer for a flat task to what stands under the name of a certificate
 abbrev pub IsCheckedFor : Parts → List ℕ → Shelf → Shelf → Answer → Type 0
-IsCheckedFor flat name old new answer = IsNotFetched name old new answer ⊎ IsToHeld flat name old answer
+IsCheckedFor flat name old new answer = IsNotFetched name old new answer ⊎ IsToHeld flat name old new answer

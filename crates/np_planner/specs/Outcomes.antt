@@ -1,7 +1,6 @@
 -- What the work on the bytes of two files comes to, and how it is put.
 use Rattle.std.specs.Prelude.{◌≡◌, ℕ, ◌≤◌, ◌⊎◌, ⊤, List, length}
 use Rattle.np_io.specs.Files.{Changes, HasPut, HasPutPrefix}
-use Rattle.np_io.specs.Counts.{Rose, OnlyAt}
 use Rattle.np_model.specs.Plans.{IsUnsolvable}
 use Rattle.np_flat.specs.declared.parts.Parts.{Parts}
 use Rattle.np_cert.specs.declared.certificate.Limit.{Limit}
@@ -28,7 +27,7 @@ use Rattle.np_planner.specs.Explored.{Expanded, AreExpandedTo, AreAllExpanded}
 use Rattle.np_planner.specs.Evidence.{certificate_of}
 use Rattle.np_planner.specs.Certified.{IsCertified, IsSpentOn}
 use Rattle.np_planner.specs.Found.{IsSpentWith}
-use Rattle.np_planner.specs.Answers.{Shelf, IsCheapest, IsSpent, IsUnwritten}
+use Rattle.np_planner.specs.Answers.{Shelf, IsCheapest, IsSpent, IsFaultless, IsUntouched, WriteFailed}
 
 -- what the certificate claims after such an ending
 abbrev pub claim_of : Ending → Limit
@@ -86,25 +85,24 @@ pub record IsOutcomeOf (d : Domain) (c : Counters) (flat : Parts) (nodes : ℕ) 
 -- a put under this name that went well
 pub record WasPut (name bytes : List ℕ) (old new : Shelf) : Type 0 where
   pub there : Changes old.files new.files (HasPut name bytes)
-  pub writes : OnlyAt name old.write_faults new.write_faults
+  pub faultless : IsFaultless old new
 
 -- a put under this name that failed
 pub record WasCut (name bytes : List ℕ) (old new : Shelf) : Type 0 where
   pub prefix : Changes old.files new.files (HasPutPrefix name bytes)
-  pub rose : Rose (old.write_faults name) (new.write_faults name)
-  pub writes : OnlyAt name old.write_faults new.write_faults
+  pub failed : WriteFailed name old new
 
 -- the answer where the certificate could not be put
 abbrev pub IsUnput : List ℕ → List ℕ → Shelf → Shelf → Answer → Type 0
 IsUnput name bytes old new (CannotWrite CertificateFile) = WasCut name bytes old new
-IsUnput name bytes old new OutOfMemory = IsUnwritten old new
+IsUnput name bytes old new OutOfMemory = IsUntouched old new
 IsUnput name bytes old new answer = ⊥
 
 -- the answer to a put of a plan of this cost
 abbrev pub IsPut : List ℕ → List ℕ → ℕ → Shelf → Shelf → Answer → Type 0
 IsPut name plan cost old new (Optimal c) = (c ≡ cost) × WasPut name plan old new
 IsPut name plan cost old new (CannotWrite PlanFile) = WasCut name plan old new
-IsPut name plan cost old new OutOfMemory = IsUnwritten old new
+IsPut name plan cost old new OutOfMemory = IsUntouched old new
 IsPut name plan cost old new answer = ⊥
 
 -- what an answer makes of an ending, where the certificate was put: a plan is put, and else nothing is done

@@ -3,15 +3,15 @@ use Rattle.std.specs.Prelude.{Option, ◌≡◌, ℕ, ◌⊎◌, List, Some, Non
 use Rattle.np_io.specs.Files.{Files}
 use Rattle.np_io.specs.Told.{Changes}
 use Rattle.np_io.specs.Pushes.{HasPushed, HasPushedPrefix}
-use Rattle.np_io.specs.Counts.{Rose}
+use Rattle.np_io.specs.Counts.{Rose, RoseOnce}
 use Rattle.np_planner.specs.declared.answer.Answer.{Answer}
 use Rattle.np_planner.specs.declared.answer.Answer.TheVariants.{Usage, Optimal, Unsolvable, Spent, Yes, OutOfMemory}
 use Rattle.np_cert.specs.declared.certificate.Limit.{Limit}
 use Rattle.np_cert.specs.declared.certificate.Limit.TheVariants.{Number, Absent}
 use Rattle.np_planner.specs.Words.{Solve, Check, Command, solving, checking, command_of}
 use Rattle.np_planner.specs.Answer.{text_of, status_of}
-use Rattle.np_planner.specs.Answers.{Shelf, shelf_of, IsRight, ReadsOnly, WasSolved, WasUnsolvable, WasSpent}
-use Rattle.np_planner.specs.Checked.{IsRightCheck, ChecksOnly, WasYes, HoldsValid}
+use Rattle.np_planner.specs.Answers.{Shelf, shelf_of, IsRight, WasSolved, WasUnsolvable, WasSpent}
+use Rattle.np_planner.specs.Checked.{IsRightCheck, WasYes, HoldsValid}
 use Rattle.np_planner.specs.Said.{Sink, sink_of, IsSaid}
 
 -- a call of the planner: its words, and the shelf and the sink before and after it
@@ -32,14 +32,15 @@ call_of files read_faults write_faults pushed faults words before after out_befo
   out_after = sink_of pushed faults out_after;
 }
 
--- exactly this text was appended, where the sink tells
-abbrev pub Says : Call → Answer → Type 0
-Says call answer = Changes call.out_before.pushed call.out_after.pushed (HasPushed (text_of answer))
+-- exactly this text was appended, where the sink tells, and no push failed
+pub record Says (call : Call) (answer : Answer) : Type 0 where
+  pub whole : Changes call.out_before.pushed call.out_after.pushed (HasPushed (text_of answer))
+  pub no_fault : call.out_after.faults ≡ call.out_before.faults
 
--- an answer to a command is right, and only counts of reads of the files that it reads may have risen
+-- an answer to a command is right
 abbrev pub IsRightTo : Command → Shelf → Shelf → Answer → Type 0
-IsRightTo (solving command) old new answer = IsRight command old new answer × ReadsOnly command.inputs old.read_faults new.read_faults
-IsRightTo (checking command) old new answer = IsRightCheck command old new answer × ChecksOnly command old.read_faults new.read_faults
+IsRightTo (solving command) old new answer = IsRight command old new answer
+IsRightTo (checking command) old new answer = IsRightCheck command old new answer
 
 -- whether an answer to these words is right: usage exactly where they fit no command, and then nothing was done
 abbrev pub IsAnswer : Option Command → Shelf → Shelf → Answer → Type 0
@@ -67,14 +68,12 @@ pub record IsOptimal (call : Call) (command : Solve) : Type 0 where
   pub says : Says call (Optimal cost)
   pub solved : WasSolved command cost call.before call.after
   pub checkable : IsCheckable call command (Number cost)
-  pub reads : ReadsOnly command.inputs call.before.read_faults call.after.read_faults
 
 -- the text `Unsolvable, weak 0` was pushed, the pair of the files has no plan, and the certificate that was put says so
 pub record HasNoPlan (call : Call) (command : Solve) : Type 0 where
   pub says : Says call Unsolvable
   pub unsolvable : WasUnsolvable command call.before call.after
   pub checkable : IsCheckable call command Absent
-  pub reads : ReadsOnly command.inputs call.before.read_faults call.after.read_faults
 
 -- the text `Budget spent N, bound L, weak 0` was pushed, N is the budget of the words, all that is said of N and L is true of the pair, and
 -- the certificate that was put says that no plan costs less than L
@@ -83,14 +82,12 @@ pub record IsBudgetSpent (call : Call) (command : Solve) : Type 0 where
   pub says : Says call (Spent command.nodes bound)
   pub spent : WasSpent command command.nodes bound call.before call.after
   pub checkable : IsCheckable call command (Number bound)
-  pub reads : ReadsOnly command.inputs call.before.read_faults call.after.read_faults
 
 -- a text `Yes: ..` was pushed, and its words are true of the pair of the files
 pub record IsYes (call : Call) (command : Check) : Type 0 where
   pub claim : Limit
   pub says : Says call (Yes claim)
   pub yes : WasYes command claim call.before call.after
-  pub reads : ChecksOnly command call.before.read_faults call.after.read_faults
 
 -- a text `No: ..` was pushed, and it names the certificate's first fault
 pub record IsNo (call : Call) (command : Check) : Type 0 where
@@ -98,7 +95,6 @@ pub record IsNo (call : Call) (command : Check) : Type 0 where
   pub own_status : status_of answer ≡ 6
   pub says : Says call answer
   pub right : IsRightCheck command call.before call.after answer
-  pub reads : ChecksOnly command call.before.read_faults call.after.read_faults
 
 -- the words fit no command, the usage text was pushed, and nothing was done
 pub record IsUsage (call : Call) : Type 0 where
@@ -115,24 +111,25 @@ pub record IsRefused (call : Call) (status : ℕ) : Type 0 where
   pub says : Says call answer
   pub right : IsRightTo command call.before call.after answer
 
--- the push failed in this call: a prefix of a right answer's text, or of `Out of memory`, was pushed
+-- one push failed in this call: a prefix of a right answer's text, or of `Out of memory`, was pushed
 pub record IsPushCut (call : Call) : Type 0 where
   pub answer : Answer
   pub right : IsAnswer (command_of call.words) call.before call.after answer
   pub said : Answer
   pub one_of : (said ≡ answer) ⊎ (said ≡ OutOfMemory)
   pub prefix : Changes call.out_before.pushed call.out_after.pushed (HasPushedPrefix (text_of said))
-  pub rose : Rose call.out_before.faults call.out_after.faults
+  pub rose : RoseOnce call.out_before.faults call.out_after.faults
 
 -- a write of the certificate or of the plan failed and that was said, or the push of an answer failed
 abbrev pub HadWriteFault : Call → Type 0
 HadWriteFault call = IsRefused call 5 ⊎ IsPushCut call
 
--- there was no memory: nothing was pushed, or the words `Out of memory`; what was done before is what a right answer allows
+-- there was no memory: nothing was pushed, or the words `Out of memory`, and no push failed; what was done before is what a right answer
+-- allows
 pub record IsOutOfMemory (call : Call) : Type 0 where
   pub answer : Answer
   pub right : IsAnswer (command_of call.words) call.before call.after answer
-  pub says : (call.out_after.pushed ≡ call.out_before.pushed) ⊎ Says call OutOfMemory
+  pub says : (call.out_after ≡ call.out_before) ⊎ Says call OutOfMemory
 
 -- the command is `solve` with what it was told, and this holds
 pub record WhenSolving (call : Call) (Holds : Solve → Type 0) : Type 0 where

@@ -2,7 +2,7 @@
 use Rattle.std.specs.Prelude.{◌≡◌, ℕ, ◌⊎◌, List, Option}
 use Rattle.np_io.specs.Told.{Changes}
 use Rattle.np_io.specs.Pushes.{HasPushed, HasPushedPrefix}
-use Rattle.np_io.specs.Counts.{Rose}
+use Rattle.np_io.specs.Counts.{RoseOnce}
 use Rattle.np_planner.specs.declared.answer.Answer.{Answer}
 use Rattle.np_planner.specs.declared.answer.Answer.TheVariants.{OutOfMemory}
 use Rattle.np_planner.specs.Answer.{text_of, status_of}
@@ -16,16 +16,17 @@ pub record Sink : Type 0 where
 abbrev pub sink_of : {O : Type 0} → (O → Option (List ℕ)) → (O → ℕ) → O → Sink
 sink_of pushed faults sink = record { pushed = pushed sink; faults = faults sink }
 
--- the whole text was pushed, and the call ends with the answer's status
+-- the whole text was pushed, no push failed, and the call ends with the answer's status
 pub record IsPushed (text : List ℕ) (own : ℕ) (old new : Sink) (status : ℕ) : Type 0 where
   pub own_status : status ≡ own
   pub whole : Changes old.pushed new.pushed (HasPushed text)
+  pub no_fault : new.faults ≡ old.faults
 
--- the push failed in this call, a prefix of the text was pushed, and the call ends with status 5
+-- one push failed in this call, a prefix of the text was pushed, and the call ends with status 5
 pub record IsCut (text : List ℕ) (old new : Sink) (status : ℕ) : Type 0 where
   pub write_status : status ≡ 5
   pub prefix : Changes old.pushed new.pushed (HasPushedPrefix text)
-  pub rose : Rose old.faults new.faults
+  pub rose : RoseOnce old.faults new.faults
 
 -- the push found no memory, nothing was pushed, and the call ends with status 7
 pub record IsUnsaid (old new : Sink) (status : ℕ) : Type 0 where

@@ -1,10 +1,9 @@
 //! The command `check`.
-ghost use Rattle.std.specs.Prelude.{◌≡◌, ◌≤◌, length, IfOk, IfErr, IsErrOf};
-ghost use Rattle.np_io.specs.Counts.{OnlyAt};
+ghost use Rattle.std.specs.Prelude.{◌≡◌, ◌≤◌, length, IfOk, IfErr, OnOk, IsErrOf};
 ghost use Rattle.np_planner.specs.Told.{told_check};
-ghost use Rattle.np_planner.specs.Answers.{shelf_of, most_bytes, IsUnwritten};
+ghost use Rattle.np_planner.specs.Answers.{shelf_of, most_bytes, IsUntouched};
 ghost use Rattle.np_io.specs.Files.{IsHeld};
-ghost use Rattle.np_planner.specs.Checked.{IsRightCheck, ChecksOnly};
+ghost use Rattle.np_planner.specs.Checked.{IsRightCheck};
 ghost use Rattle.np_planner.specs.Checking.{IsFlatOf, IsJudged, IsNotFetched, IsCheckedFor};
 ghost use Rattle.np_planner.specs.Outcomes.{HasNoPair};
 
@@ -58,10 +57,9 @@ fn judge(alloc: Global, flat: &Flat, bytes: &[u8]) -> Answer
 
 /// The bytes of the certificate, however many, or the answer where they can't be had.
 fn read_bytes<S: Shelf>(alloc: Global, shelf: &mut S, name: &str) -> Result<Vec<u8>, Answer>
-    ensures unwritten { IsUnwritten
+    ensures untouched { OnOk result (IsUntouched
         (shelf_of S.files S.read_faults S.write_faults shelf.old)
-        (shelf_of S.files S.read_faults S.write_faults shelf.new) }
-    ensures reads { OnlyAt name.now (S.read_faults shelf.old) (S.read_faults shelf.new) }
+        (shelf_of S.files S.read_faults S.write_faults shelf.new)) }
     ensures held { IfOk result (λ bytes. IsHeld (S.files shelf.old) name.now bytes.items) }
     ensures refused { IfErr result (IsNotFetched name.now
         (shelf_of S.files S.read_faults S.write_faults shelf.old)
@@ -77,10 +75,9 @@ fn read_bytes<S: Shelf>(alloc: Global, shelf: &mut S, name: &str) -> Result<Vec<
 
 /// Checks a certificate for the pair of files that the words name.
 pub fn check<S: Shelf>(alloc: Global, command: &Check<'_>, shelf: &mut S) -> Answer
-    ensures right { IsRightCheck (told_check command.now)
+    ensures { IsRightCheck (told_check command.now)
         (shelf_of S.files S.read_faults S.write_faults shelf.old)
         (shelf_of S.files S.read_faults S.write_faults shelf.new) result }
-    ensures reads { ChecksOnly (told_check command.now) (S.read_faults shelf.old) (S.read_faults shelf.new) }
 {
     let (domain, problem) = match read_inputs(alloc, &command.inputs, shelf) {
         Ok(files) => files,
@@ -95,11 +92,7 @@ pub fn check<S: Shelf>(alloc: Global, command: &Check<'_>, shelf: &mut S) -> Ans
 
 /// Checks the certificate of this name for a flat task.
 fn check_for<S: Shelf>(alloc: Global, flat: &Flat, name: &str, shelf: &mut S) -> Answer
-    ensures unwritten { IsUnwritten
-        (shelf_of S.files S.read_faults S.write_faults shelf.old)
-        (shelf_of S.files S.read_faults S.write_faults shelf.new) }
-    ensures reads { OnlyAt name.now (S.read_faults shelf.old) (S.read_faults shelf.new) }
-    ensures checked { IsCheckedFor flat.now name.now
+    ensures { IsCheckedFor flat.now name.now
         (shelf_of S.files S.read_faults S.write_faults shelf.old)
         (shelf_of S.files S.read_faults S.write_faults shelf.new) result }
 {

@@ -1,8 +1,7 @@
 //! The pair of files that a command reads first.
-ghost use Rattle.std.specs.Prelude.{IfOk, IfErr};
-ghost use Rattle.np_io.specs.Counts.{OnlyAt};
+ghost use Rattle.std.specs.Prelude.{IfOk, IfErr, OnOk};
 ghost use Rattle.np_planner.specs.Told.{told_inputs};
-ghost use Rattle.np_planner.specs.Answers.{shelf_of, IsRead, AreRead, IsUnread, AreUnread, IsUnwritten, ReadsOnly};
+ghost use Rattle.np_planner.specs.Answers.{shelf_of, IsRead, AreRead, IsUnread, AreUnread, IsUntouched};
 
 use crate::answer::{Answer, File};
 use crate::words::Inputs;
@@ -14,10 +13,9 @@ const MOST_BYTES: usize = 1 << 24;
 
 /// The bytes of a domain or a problem, or the answer where it can't be had.
 fn read<S: Shelf>(alloc: Global, shelf: &mut S, name: &str, file: File) -> Result<Vec<u8>, Answer>
-    ensures unwritten { IsUnwritten
+    ensures untouched { OnOk result (IsUntouched
         (shelf_of S.files S.read_faults S.write_faults shelf.old)
-        (shelf_of S.files S.read_faults S.write_faults shelf.new) }
-    ensures reads { OnlyAt name.now (S.read_faults shelf.old) (S.read_faults shelf.new) }
+        (shelf_of S.files S.read_faults S.write_faults shelf.new)) }
     ensures read { IfOk result (λ bytes. IsRead
         (shelf_of S.files S.read_faults S.write_faults shelf.old) name.now bytes.items) }
     ensures refused { IfErr result (IsUnread file name.now
@@ -38,10 +36,9 @@ pub fn read_inputs<S: Shelf>(
     inputs: &Inputs<'_>,
     shelf: &mut S,
 ) -> Result<(Vec<u8>, Vec<u8>), Answer>
-    ensures unwritten { IsUnwritten
+    ensures untouched { OnOk result (IsUntouched
         (shelf_of S.files S.read_faults S.write_faults shelf.old)
-        (shelf_of S.files S.read_faults S.write_faults shelf.new) }
-    ensures reads { ReadsOnly (told_inputs inputs.now) (S.read_faults shelf.old) (S.read_faults shelf.new) }
+        (shelf_of S.files S.read_faults S.write_faults shelf.new)) }
     ensures read { IfOk result (λ files. AreRead (told_inputs inputs.now)
         (shelf_of S.files S.read_faults S.write_faults shelf.old) files.0.items files.1.items) }
     ensures refused { IfErr result (AreUnread (told_inputs inputs.now)

@@ -1,8 +1,8 @@
 //! The command `solve`.
 ghost use Rattle.std.specs.Prelude.{◌≡◌, ◌≤◌, ◌<◌, ◌^◌, ℕ, List, false, length, All, IfOk, IfErr, OnOk, IsErrOf};
 ghost use Rattle.std.specs.Str.{bytes_eq};
-ghost use Rattle.np_planner.specs.Told.{told_solve, told_inputs};
-ghost use Rattle.np_planner.specs.Answers.{shelf_of, most_bytes, IsRight, ReadsOnly};
+ghost use Rattle.np_planner.specs.Told.{told_solve};
+ghost use Rattle.np_planner.specs.Answers.{shelf_of, most_bytes, IsRight};
 ghost use Rattle.np_planner.specs.Outcomes.{claim_of, IsOutcome, IsOutcomeOf, IsEndingOf, HasNoPair, WasPut, IsUnput, IsPut, Concludes, Finishes};
 ghost use Rattle.np_planner.specs.Pairs.{IsPairOf};
 ghost use Rattle.np_planner.specs.Counters.{IsInRange};
@@ -148,10 +148,9 @@ pub fn solve<S: Shelf>(alloc: Global, command: &Solve<'_>, shelf: &mut S) -> Ans
     requires some_nodes { 1 ≤ command.now.nodes }
     requires few_nodes { command.now.nodes ≤ 2 ^ 24 }
     requires apart { bytes_eq command.now.plan.now command.now.certificate.now ≡ false }
-    ensures right { IsRight (told_solve command.now)
+    ensures { IsRight (told_solve command.now)
         (shelf_of S.files S.read_faults S.write_faults shelf.old)
         (shelf_of S.files S.read_faults S.write_faults shelf.new) result }
-    ensures reads { ReadsOnly (told_inputs command.now.inputs) (S.read_faults shelf.old) (S.read_faults shelf.new) }
 {
     let (domain, problem) = match read_inputs(alloc, &command.inputs, shelf) {
         Ok(files) => files,
@@ -166,10 +165,9 @@ pub fn solve<S: Shelf>(alloc: Global, command: &Solve<'_>, shelf: &mut S) -> Ans
 
 /// Puts the certificate, then the plan, if there is one, and gives the answer.
 fn finish<S: Shelf>(command: &Solve<'_>, outcome: &Outcome, shelf: &mut S) -> Answer
-    ensures finishes { Finishes (told_solve command.now) outcome.now
+    ensures { Finishes (told_solve command.now) outcome.now
         (shelf_of S.files S.read_faults S.write_faults shelf.old)
         (shelf_of S.files S.read_faults S.write_faults shelf.new) result }
-    ensures reads { S.read_faults shelf.new ≡ S.read_faults shelf.old }
 {
     match put_certificate(shelf, command.certificate, outcome.certificate.as_slice()) {
         Ok(()) => conclude(command, &outcome.ending, shelf),
@@ -185,7 +183,6 @@ fn put_certificate<S: Shelf>(shelf: &mut S, name: &str, text: &[u8]) -> Result<(
     ensures unput { IfErr result (IsUnput name.now text.now
         (shelf_of S.files S.read_faults S.write_faults shelf.old)
         (shelf_of S.files S.read_faults S.write_faults shelf.new)) }
-    ensures reads { S.read_faults shelf.new ≡ S.read_faults shelf.old }
 {
     match shelf.put(name, text) {
         Ok(()) => Ok(()),
@@ -196,10 +193,9 @@ fn put_certificate<S: Shelf>(shelf: &mut S, name: &str, text: &[u8]) -> Result<(
 
 /// Puts the plan, if there is one, and gives the answer.
 fn conclude<S: Shelf>(command: &Solve<'_>, ending: &Ending, shelf: &mut S) -> Answer
-    ensures concludes { Concludes (told_solve command.now) ending.now
+    ensures { Concludes (told_solve command.now) ending.now
         (shelf_of S.files S.read_faults S.write_faults shelf.old)
         (shelf_of S.files S.read_faults S.write_faults shelf.new) result }
-    ensures reads { S.read_faults shelf.new ≡ S.read_faults shelf.old }
 {
     match ending {
         Ending::Plan(text, cost) => put_plan(shelf, command.plan, text.as_slice(), *cost),
@@ -210,10 +206,9 @@ fn conclude<S: Shelf>(command: &Solve<'_>, ending: &Ending, shelf: &mut S) -> An
 
 /// Puts a cheapest plan of this cost.
 fn put_plan<S: Shelf>(shelf: &mut S, name: &str, text: &[u8], cost: usize) -> Answer
-    ensures put { IsPut name.now text.now cost
+    ensures { IsPut name.now text.now cost
         (shelf_of S.files S.read_faults S.write_faults shelf.old)
         (shelf_of S.files S.read_faults S.write_faults shelf.new) result }
-    ensures reads { S.read_faults shelf.new ≡ S.read_faults shelf.old }
 {
     match shelf.put(name, text) {
         Ok(()) => Answer::Optimal(cost),

@@ -82,6 +82,7 @@ fn cut_writes_are_told(rt: HostRuntime) -> Result<(), Fail> {
     )?;
     expect_file(&rt, &failing, "cert", Some("(cert"));
     expect_file(&rt, &failing, "plan", None);
+    assert_eq!(rt; (failing.calls(), sink.calls()), (3, 1));
 
     let mut failing = shelf(rt.alloc(), STEPS.as_bytes(), THREE.as_bytes())?;
     failing.fail(3, 4)?;
@@ -96,6 +97,7 @@ fn cut_writes_are_told(rt: HostRuntime) -> Result<(), Fail> {
     )?;
     expect_file(&rt, &failing, "cert", Some(NONE_BELOW_THREE));
     expect_file(&rt, &failing, "plan", Some("(up)"));
+    assert_eq!(rt; (failing.calls(), sink.calls()), (4, 1));
     Ok(())
 }
 
@@ -107,6 +109,7 @@ fn cut_answers_are_told(rt: HostRuntime) -> Result<(), Fail> {
     expect_solve(&rt, "", &mut whole, &mut cut, "Optimal", 5)?;
     expect_file(&rt, &whole, "plan", Some("(up)\n(up)\n(up)\n"));
     expect_file(&rt, &whole, "cert", Some(NONE_BELOW_THREE));
+    assert_eq!(rt; (whole.calls(), cut.calls()), (4, 1));
 
     let mut failing = shelf(rt.alloc(), STEPS.as_bytes(), THREE.as_bytes())?;
     failing.fail(2, 5)?;

@@ -1,6 +1,5 @@
 -- A failed write is one more noted failure, and what follows from that.
 use Rattle.std.proofs.Common.{true, refl}
-use Rattle.np_io.specs.Failures.{IsNoted}
 use Rattle.np_io.proofs.Puts.{noted_behind, noted_rose, noted_only, noted_kind}
 use Rattle.np_io.proofs.memory_shelf.MemoryShelf.put_part.Goals as goal
 

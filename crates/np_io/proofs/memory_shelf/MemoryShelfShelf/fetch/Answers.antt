@@ -1,6 +1,5 @@
 -- A failed read is one more noted failure, and what follows from that.
 use Rattle.std.proofs.Common.{false, refl}
-use Rattle.np_io.specs.Failures.{IsNoted}
 use Rattle.np_io.proofs.Puts.{noted_behind, noted_rose, noted_only}
 use Rattle.np_io.proofs.memory_shelf.MemoryShelfShelf.fetch.Goals as goal
 
