@@ -1,7 +1,7 @@
 pub mod Printing
 pub mod ReadingForms
 pub mod ReadingLaws
+pub mod ReadingLexemes
 pub mod ReadingNumbers
-pub mod ReadingDigits
 pub mod ReadingTexts
 pub mod Written

@@ -77,7 +77,7 @@ both_true _ _ e = absurd cc
 pub same_kind_true : (a b : Kind) → same_kind a b ≡ true → a ≡ b
 same_kind_true a b e = same_kind_is a b e
 
-same_lexeme_is : (found lexeme : Lexeme) → same_lexeme found lexeme ≡ true → found ≡ lexeme
+pub same_lexeme_is : (found lexeme : Lexeme) → same_lexeme found lexeme ≡ true → found ≡ lexeme
 same_lexeme_is found lexeme e =
     let h = both_true (same_kind found.kind lexeme.kind) (bytes_eq found.text lexeme.text) e in
     let kinds : found.kind ≡ lexeme.kind = same_kind_is found.kind lexeme.kind h.0 in
@@ -105,7 +105,7 @@ expect_sound lexeme [] = tt
 expect_sound lexeme (bad ∷ pieces) = tt
 expect_sound lexeme (word found ∷ pieces) = wanted_sound lexeme found pieces (same_lexeme found lexeme) refl
 
-expect_back : (lexeme : Lexeme) (pieces : List Piece) → expect lexeme (word lexeme ∷ pieces) ≡ Some (tt, pieces)
+pub expect_back : (lexeme : Lexeme) (pieces : List Piece) → expect lexeme (word lexeme ∷ pieces) ≡ Some (tt, pieces)
 unfolding expect
 expect_back lexeme pieces = ap (λ (b : Bool). cond b (Some (tt, pieces)) None) (same_lexeme-refl lexeme)
 

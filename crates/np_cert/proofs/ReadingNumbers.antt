@@ -1,5 +1,5 @@
 -- Numbers: what is read is spelled so, and what is spelled so is read.
-use Rattle.std.proofs.Common.{map, ◌≡◌, ℕ, zero, suc, ◌≤◌, ◌<◌, ℤ, pos, negsuc, Bool, true, false, cond, ◌&&◌, List, [], ◌∷◌, Option, Some, None, Result, Ok, refl, sym, ap, subst, ◌∙◌, arith, eqb, ltb, decimal}
+use Rattle.std.proofs.Common.{map, ◌≡◌, ℕ, zero, suc, ◌≤◌, ◌<◌, ◌^◌, ℤ, pos, negsuc, Bool, true, false, cond, ◌&&◌, List, [], ◌∷◌, Option, Some, None, Result, Ok, refl, sym, ap, subst, ◌∙◌, arith, eqb, ltb, decimal}
 use Rattle.std.specs.Prelude.{unsigned_abs}
 use Rattle.std.specs.Option.{option_map}
 use Rattle.std.specs.Char.{to_ascii_lowercase}
@@ -54,6 +54,19 @@ natural_is bound n small below =
     ap (λ (m : ℕ). cond (ltb m bound && bytes_eq (decimal m) (decimal n)) (Some m) None) (is_numeral bound n small below).1
     ∙ ap (λ (b : Bool). cond (b && bytes_eq (decimal n) (decimal n)) (Some n) None) less
     ∙ ap (λ (b : Bool). cond b (Some n) None) same
+
+and_true : (b : Bool) → (b && true) ≡ b
+and_true true = refl
+and_true false = refl
+
+-- what the decimal of a number says
+pub natural_decimal : (bound n : ℕ) → n < 2 ^ 64 → natural_of bound (decimal n) ≡ cond (ltb n bound) (Some n) None
+unfolding natural_of
+natural_decimal bound n small =
+    let same : bytes_eq (decimal n) (decimal n) ≡ true = (bytes_eq-Decides (decimal n) (decimal n)).1 refl in
+    ap (λ (m : ℕ). cond (ltb m bound && bytes_eq (decimal m) (decimal n)) (Some m) None) (decimal_is_IsNumeral_wide n (omega arith)).1
+    ∙ ap (λ (b : Bool). cond (ltb n bound && b) (Some n) None) same
+    ∙ ap (λ (b : Bool). cond b (Some n) None) (and_true (ltb n bound))
 
 -- ---- what a parser and a printer tell
 
@@ -123,7 +136,7 @@ unsigned (first ∷ digits) h =
     let plain : eqb first 45 ≡ false = grind (arith, nat_tests) in
     ap (λ (b : Bool). cond b (below_zero (natural_of most digits)) (option_map pos (natural_of most (first ∷ digits)))) plain
 
-integer_is : (v : ℤ) → IsBelowMost v → integer_of (integer_text v) ≡ Some v
+pub integer_is : (v : ℤ) → IsBelowMost v → integer_of (integer_text v) ≡ Some v
 unfolding integer_of
 integer_is (pos n) h = unsigned (decimal n) (is_numeral most n (omega arith) h).0 ∙ ap (λ (o : Option ℕ). option_map pos o) (natural_is most n (omega arith) h)
 integer_is (negsuc n) h = ap below_zero (natural_is most (suc n) (omega arith) h)

@@ -2,7 +2,6 @@ pub mod Valid
 pub mod Text
 pub mod Layout
 pub mod ReadingAnswers
-pub mod ReadingDigits
 pub mod ReadingForm
 pub mod ReadingOnce
 pub mod ReadingSteps

@@ -16,41 +16,38 @@ mod words;
 
 use crate::certificate::Certificate;
 pub use fault::CertFault;
-use np_lex::{Kind, Lexer};
+use np_lex::Lexer;
 use parts::{claim, entries, no_proofs};
 use sqlite_items::Items;
 use std::alloc::Global;
-use words::{Read, expect, open, place_of_next, right};
+use words::{numeral, open, place_of_next, right};
 
 #[cfg(test)]
 mod tests;
 
 /// Reads `(certificate 1 (claim limit) (proofs) (entries entry ..))`.
 #[tactic(auto, unfolding(crate::specs::ReadingForm::certificate))]
-fn certificate(alloc: Global, lexer: Lexer<'_>) -> Read<'_, Certificate>
-    ensures { Gives (λ x. (x.0, pieces_left x.1)) result (form.certificate (pieces_left lexer.entry)) }
+fn certificate(alloc: Global, lexer: &mut Lexer<'_>) -> Result<Certificate, CertFault>
+    ensures { Gives (λ x. (x, pieces_left lexer.new)) result (form.certificate (pieces_left lexer.old)) }
 {
-    let lexer = open(lexer, b"certificate")?;
-    let lexer = expect(lexer, Kind::Number, b"1")?;
-    let (claim, lexer) = claim(lexer)?;
-    let lexer = no_proofs(lexer)?;
-    let (entries, lexer) = entries(alloc, lexer)?;
-    let lexer = right(lexer)?;
-    Ok((
-        Certificate {
-            claim,
-            proofs: Items::new(alloc),
-            entries,
-        },
-        lexer,
-    ))
+    open(lexer, b"certificate")?;
+    numeral(lexer, b"1")?;
+    let claim = claim(lexer)?;
+    no_proofs(lexer)?;
+    let entries = entries(alloc, lexer)?;
+    right(lexer)?;
+    Ok(Certificate {
+        claim,
+        proofs: Items::new(alloc),
+        entries,
+    })
 }
 
 /// Whether nothing is left of the text but blanks and comments.
-fn is_at_end(lexer: Lexer<'_>) -> bool
-    ensures { IsTrue result ↔ (pieces_left lexer.entry ≡ []) }
+fn is_at_end(lexer: &Lexer<'_>) -> bool
+    ensures { IsTrue result ↔ (pieces_left lexer.now ≡ []) }
 {
-    let mut rest = lexer;
+    let mut rest = *lexer;
     matches!(rest.next(), Ok(None))
 }
 
@@ -58,9 +55,10 @@ fn is_at_end(lexer: Lexer<'_>) -> bool
 fn whole_certificate(alloc: Global, bytes: &[u8]) -> Result<Certificate, CertFault>
     ensures { Gives (λ certificate. certificate) result (steps.whole_text (form.certificate (pieces bytes.now))) }
 {
-    let (certificate, rest) = certificate(alloc, Lexer::new(bytes))?;
-    if !is_at_end(rest) {
-        return Err(CertFault::At(place_of_next(rest)));
+    let mut lexer = Lexer::new(bytes);
+    let certificate = certificate(alloc, &mut lexer)?;
+    if !is_at_end(&lexer) {
+        return Err(CertFault::At(place_of_next(&lexer)));
     }
     Ok(certificate)
 }

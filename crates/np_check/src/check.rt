@@ -9,6 +9,7 @@ ghost use Rattle.np_check.specs.Steps.{IsBounded};
 use crate::first::FirstEntries;
 use crate::fitting::is_fitting;
 use crate::limit::{at_most, is_small, is_within};
+use crate::scratch::Scratch;
 use crate::verdict::Verdict;
 use np_cert::{Certificate, Entry, Limit};
 use np_flat::Flat;
@@ -53,8 +54,9 @@ fn first_fault(
     requires entries { first.now ≡ certificate.now.entries }
     ensures { IfOk result (λ fault. MatchOption fault (AreGood flat.now certificate.now.entries (length certificate.now.entries)) (IsVerdict flat.now certificate.now)) }
 {
+    let mut scratch = Scratch::new(alloc, flat.parts().steps.len())?;
     for number in 0..certificate.entries.len() {
-        let fault = fault_at(alloc, flat, certificate, first, number)?;
+        let fault = fault_at(alloc, flat, certificate, first, number, &mut scratch)?;
         if fault.is_some() {
             return Ok(fault);
         }
@@ -69,6 +71,7 @@ fn fault_at(
     certificate: &Certificate,
     first: &FirstEntries<'_>,
     number: usize,
+    scratch: &mut Scratch,
 ) -> Result<Option<Verdict>, AllocError>
     requires thin { IsThin certificate.now }
     requires entries { first.now ≡ certificate.now.entries }
@@ -80,7 +83,7 @@ fn fault_at(
     if first.number_of(number, &entry.state) != Some(number) {
         return Ok(Some(Verdict::TwiceEntry(number)));
     }
-    if !is_justified(alloc, flat, first, entry)? {
+    if !is_justified(alloc, flat, first, entry, scratch)? {
         return Ok(Some(Verdict::BadEntry(number)));
     }
     Ok(None)
@@ -92,6 +95,7 @@ fn is_justified(
     flat: &Flat,
     first: &FirstEntries<'_>,
     entry: &Entry,
+    scratch: &mut Scratch,
 ) -> Result<bool, AllocError>
     requires by_expansion { entry.now.why ≡ Expanded }
     ensures { IfOk result (λ good. IsTrue good ↔ IsJustified flat.now first.now entry.now) }
@@ -102,7 +106,7 @@ fn is_justified(
     if entry.bound == Limit::Number(0) {
         return Ok(true);
     }
-    is_expanded(alloc, flat, first, entry)
+    is_expanded(alloc, flat, first, entry, scratch)
 }
 
 /// Whether the state of an entry that fits is no goal, and each step bounds its bound.
@@ -111,6 +115,7 @@ fn is_expanded(
     flat: &Flat,
     first: &FirstEntries<'_>,
     entry: &Entry,
+    scratch: &mut Scratch,
 ) -> Result<bool, AllocError>
     requires fitting { IsFitting flat.now entry.now }
     ensures { IfOk result (λ good. IsTrue good ↔ IsExpanded flat.now first.now entry.now) }
@@ -119,7 +124,7 @@ fn is_expanded(
         return Ok(false);
     }
     for step in 0..flat.parts().steps.len() {
-        if !is_bounded(alloc, flat, first, entry, step)? {
+        if !is_bounded(alloc, flat, first, entry, step, scratch)? {
             return Ok(false);
         }
     }
@@ -134,6 +139,7 @@ fn is_bounded(
     first: &FirstEntries<'_>,
     entry: &Entry,
     step: usize,
+    scratch: &mut Scratch,
 ) -> Result<bool, AllocError>
     requires fitting { IsFitting flat.now entry.now }
     requires number { step < length flat.now.steps }
@@ -144,8 +150,11 @@ fn is_bounded(
     if !flat.applicable(number, &entry.state) {
         return Ok(true);
     }
-    let after = flat.after(alloc, number, &entry.state)?;
-    Ok(is_within(entry.bound, steps[step].cost, first.bound(&after)))
+    flat.after_in(alloc, number, &entry.state, &mut scratch.after)?;
+    let mut guess = scratch.guess(step);
+    let rest = first.bound_near(&mut guess, &scratch.after);
+    scratch.note(step, guess);
+    Ok(is_within(entry.bound, steps[step].cost, rest))
 }
 
 /// Whether the claim is small, and at most the bound of the start.

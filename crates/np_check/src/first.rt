@@ -40,7 +40,7 @@ impl<'a> FirstEntries<'a> {
     pub fn new(alloc: Global, entries: &'a [Entry]) -> Result<FirstEntries<'a>, AllocError>
         ensures { IfOk result (λ f. f ≡ entries.now) }
     {
-        let mut numbers = IndexMap::new(alloc);
+        let mut numbers = IndexMap::with_capacity(alloc, entries.len())?;
         let mut distinct = true;
         for number in (0..entries.len()).rev() {
             let later = numbers.insert(&entries[number].state, number)?;
@@ -54,7 +54,7 @@ impl<'a> FirstEntries<'a> {
     }
 
     /// The number of the first entry of a state.
-    pub fn number(&self, state: &FlatState) -> Option<usize>
+    fn number(&self, state: &FlatState) -> Option<usize>
         ensures { MatchOption result (HasNone self.now state.now 0 (length self.now)) (IsFirst self.now state.now 0) }
     {
         self.numbers.get(&state).copied()
@@ -72,12 +72,34 @@ impl<'a> FirstEntries<'a> {
         self.number(state)
     }
 
+    /// The number of the first entry of a state, which one comparison finds where it is the guess. Any number may be guessed.
+    fn number_near(&self, guess: usize, state: &FlatState) -> Option<usize>
+        ensures { MatchOption result (HasNone self.now state.now 0 (length self.now)) (IsFirst self.now state.now 0) }
+    {
+        if self.distinct && guess < self.entries.len() && self.entries[guess].state == *state {
+            return Some(guess);
+        }
+        self.number(state)
+    }
+
     /// The bound of the first entry of a state; 0 where there is none.
     pub fn bound(&self, state: &FlatState) -> Limit
         ensures { result ≡ bound_at self.now state.now }
     {
-        match self.number(state) {
-            Some(number) => self.entries[number].bound,
+        let mut guess = 0;
+        self.bound_near(&mut guess, state)
+    }
+
+    /// The bound of the first entry of a state; 0 where there is none. The entry is looked for at the guess first, which
+    /// then becomes the number after it. Any number may be guessed.
+    pub fn bound_near(&self, guess: &mut usize, state: &FlatState) -> Limit
+        ensures { result ≡ bound_at self.now state.now }
+    {
+        match self.number_near(*guess, state) {
+            Some(number) => {
+                *guess = number + 1;
+                self.entries[number].bound
+            }
             None => Limit::Number(0),
         }
     }

@@ -8,6 +8,7 @@ mod first;
 mod fitting;
 mod laws;
 mod limit;
+mod scratch;
 #[cfg(test)]
 mod tests;
 mod verdict;

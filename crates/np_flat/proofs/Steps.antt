@@ -1,7 +1,6 @@
 -- The state after a step: it is one of the task, and its values are not much larger.
 use Rattle.std.proofs.Common.{◌≡◌, ◌≢◌, ℕ, ◌+◌, ◌^◌, ◌≤◌, ◌<◌, not, ℤ, pos, ◌+ℤ◌, unsigned_abs, List, [], ◌∷◌, length, get_or, All, refl, sym, ap, ◌∙◌, subst, inl, inr, arith}
-use Rattle.std.specs.Prelude.{filter, map, Result, IfOk}
-use Rattle.std.proofs.lemmas.Result.{IfOk-weaker}
+use Rattle.std.specs.Prelude.{filter, map}
 use Rattle.std.proofs.lemmas.Bool.{cases_eq}
 use Rattle.std.proofs.lemmas.List.{get_or-set_same, get_or-set_other, get_or-map, length-map, length-set, get_or_default}
 use Rattle.std.proofs.lemmas.List.Elements.{All-nil, All-cons, All-head, All-tail, All-filter, All-weaker}
@@ -9,7 +8,7 @@ use Rattle.np_flat.specs.declared.state.FlatState.{FlatState}
 use Rattle.np_flat.specs.declared.parts.FlatStep.{FlatStep}
 use Rattle.np_flat.specs.declared.parts.Parts.{Parts}
 use Rattle.np_flat.specs.Flats.{IsAscending, AreBelow, IsState, IsStateOf, IsStep, IsFlat}
-use Rattle.np_flat.specs.States.{has, value_at, changed, all_changed, state_after}
+use Rattle.np_flat.specs.States.{has, put_all, facts_after, value_at, changed, all_changed, state_after}
 use Rattle.np_flat.proofs.Ascending.{above_first, ascending_rest, ascending_filter, ascending_put_all, All-put_all}
 use Rattle.np_flat.proofs.Forms.{abs_sum, amounts_small}
 use Rattle.np_flat.proofs.Changes.{length-all_changed}
@@ -27,6 +26,17 @@ state_of_after facts values subgoals step s step_of of = record {
   };
   count = length-all_changed step.changes s.values ∙ of.count;
 }
+
+-- a step that neither adds nor deletes facts leaves them as they are
+pub facts_stay : (step : FlatStep) (facts : List ℕ) → step.adds ≡ [] → step.deletes ≡ [] → facts_after step facts ≡ facts
+facts_stay step facts no_adds no_deletes =
+    ap (λ ns. put_all ns (filter (λ p. not (has step.deletes p)) facts)) no_adds
+    ∙ ap (λ ns. filter (λ p. not (has ns p)) facts) no_deletes
+    ∙ all_stay facts
+  where
+    all_stay : (ps : List ℕ) → filter (λ p. not (has [] p)) ps ≡ ps
+    all_stay [] = refl
+    all_stay (p ∷ ps) = ap (λ qs. p ∷ qs) (all_stay ps)
 
 -- later changes are on greater numbers
 pub above_change : (c : ℕ × ℤ) (cs : List (ℕ × ℤ)) → IsAscending (map (λ a. a.0) (c ∷ cs)) → All (λ e. c.0 < e.0) cs
@@ -96,19 +106,16 @@ pub below_after : (facts values subgoals size : ℕ) (step : FlatStep) (s : Flat
 below_after facts values subgoals size step s of small =
     near_changed (λ (v : ℤ). unsigned_abs v < size) (λ (v : ℤ). unsigned_abs v < size + 2 ^ 62) (2 ^ 62) (λ v h. omega arith) (λ v w h k. omega (arith, abs_sum v w)) step.changes s.values of.changes.numbers.ascending (changes_small facts values subgoals step of) small
 
--- what that says of a call that gives the state after a step of the task
-module _ {E : Type 0} (r : Result FlatState E) (task : Parts) (xs : List FlatStep) (n : ℕ) (step : FlatStep) (s : FlatState)
+-- what that says of the step of this number
+module _ (task : Parts) (xs : List FlatStep) (n : ℕ) (step : FlatStep) (s after : FlatState)
     (flat : IsFlat task) (steps : xs ≡ task.steps) (within : n < length task.steps) (at : step ≡ get_or xs n step)
-    (gives : IfOk r (λ after. after ≡ state_after step s)) where
-  pub gives_state : IsStateOf task s → IfOk r (IsStateOf task)
-  gives_state of =
-      IfOk-weaker r (λ after. after ≡ state_after step s) (IsStateOf task)
-      (λ after e. subst (IsStateOf task) (sym e) (state_of_after (length task.facts) (length task.values) (length task.subgoals) step s (step_is task xs n step flat steps within at) of))
-      gives
+    (is : after ≡ state_after step s) where
+  pub is_state : IsStateOf task s → IsStateOf task after
+  is_state of =
+      subst (IsStateOf task) (sym is) (state_of_after (length task.facts) (length task.values) (length task.subgoals) step s (step_is task xs n step flat steps within at) of)
 
-  pub gives_near : AreBelow (2 ^ 87) s.values → IfOk r (λ after. All (λ v. unsigned_abs v ≤ 2 ^ 87 + 2 ^ 62) after.values)
-  gives_near small =
+  pub is_near : AreBelow (2 ^ 87) s.values → All (λ v. unsigned_abs v ≤ 2 ^ 87 + 2 ^ 62) after.values
+  is_near small =
       let wide : All (λ v. unsigned_abs v ≤ 2 ^ 87) s.values = All-weaker (λ (v : ℤ). unsigned_abs v < 2 ^ 87) (λ (v : ℤ). unsigned_abs v ≤ 2 ^ 87) (λ v h. omega arith) s.values small in
-      IfOk-weaker r (λ after. after ≡ state_after step s) (λ after. All (λ v. unsigned_abs v ≤ 2 ^ 87 + 2 ^ 62) after.values)
-      (λ after e. subst (λ (t : FlatState). All (λ v. unsigned_abs v ≤ 2 ^ 87 + 2 ^ 62) t.values) (sym e) (near_after (length task.facts) (length task.values) (length task.subgoals) (2 ^ 87) step s (step_is task xs n step flat steps within at) wide))
-      gives
+      subst (λ (t : FlatState). All (λ v. unsigned_abs v ≤ 2 ^ 87 + 2 ^ 62) t.values) (sym is)
+      (near_after (length task.facts) (length task.values) (length task.subgoals) (2 ^ 87) step s (step_is task xs n step flat steps within at) wide)

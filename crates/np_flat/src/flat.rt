@@ -1,12 +1,13 @@
 //! The flat task, and what holds in its states.
-ghost use Rattle.std.specs.Prelude.{◌≡◌, ◌<◌, ◌≤◌, ◌^◌, ◌+◌, true, length, All, unsigned_abs, Some, IfOk};
+ghost use Rattle.std.specs.Prelude.{◌≡◌, ◌<◌, ◌≤◌, ◌^◌, ◌+◌, true, length, All, unsigned_abs, Some, IfOk, OnOk};
 ghost use Rattle.std.specs.List.{list_all};
 ghost use Rattle.np_flat.specs.Flats.{IsFlat, IsStateOf, AreBelow};
 ghost use Rattle.np_flat.specs.States.{holds, is_goal, is_applicable, next};
 
 use crate::parts::{Parts, Subgoal};
 use crate::state::FlatState;
-use crate::step::state_after;
+use crate::step::leave_after;
+use sqlite_items::Items;
 use std::alloc::{AllocError, Global};
 use std::marker::Model;
 
@@ -95,7 +96,38 @@ impl Flat {
         ensures state_of { IfOk result (IsStateOf self.now) }
         ensures near { IfOk result (λ after. All (λ v. unsigned_abs v ≤ 2 ^ 87 + 2 ^ 62) after.values) }
     {
-        state_after(alloc, &self.parts.steps.as_slice()[step as usize], state)
+        let mut after = FlatState {
+            facts: Items::new(alloc),
+            values: Items::new(alloc),
+        };
+        self.after_in(alloc, step, state, &mut after)?;
+        Ok(after)
+    }
+
+    /// Leaves the state after a step that may be taken in `after`, whatever state was there, and uses its memory again. None
+    /// is taken where that state has as many values, and either no fact is true after the step, or the step names none and
+    /// that state has the facts already. Want of memory is an error, and then nothing is said of `after`.
+    pub fn after_in(
+        &self,
+        alloc: Global,
+        step: u32,
+        state: &FlatState,
+        after: &mut FlatState,
+    ) -> Result<(), AllocError>
+        requires number { step < length self.now.steps }
+        requires state { IsStateOf self.now state.now }
+        requires small { AreBelow (2 ^ 87) state.now.values }
+        requires applicable { is_applicable self.now state.now step ≡ true }
+        ensures after { OnOk result (next self.now step state.now ≡ Some after.new) }
+        ensures state_of { OnOk result (IsStateOf self.now after.new) }
+        ensures near { OnOk result (All (λ v. unsigned_abs v ≤ 2 ^ 87 + 2 ^ 62) after.new.values) }
+    {
+        leave_after(
+            alloc,
+            &self.parts.steps.as_slice()[step as usize],
+            state,
+            after,
+        )
     }
 
     /// Whether all these subgoals hold in a state.

@@ -1,5 +1,5 @@
 //! What a step makes of a state.
-ghost use Rattle.std.specs.Prelude.{◌≡◌, ◌^◌, length, not, filter, IfOk};
+ghost use Rattle.std.specs.Prelude.{◌≡◌, ◌^◌, length, not, filter, IfOk, OnOk};
 ghost use Rattle.np_flat.specs.Flats.{IsAscending, AreBelow, AreAmounts};
 ghost use Rattle.np_flat.specs.States.{has, facts_after, all_changed, state_after};
 
@@ -9,22 +9,42 @@ use crate::state::FlatState;
 use sqlite_items::Items;
 use std::alloc::{AllocError, Global};
 
-/// The state after a step, wherever it is taken.
-pub fn state_after(
+/// Leaves the state after a step in `after`, whether or not the step may be taken. Its memory is used again. After an error
+/// nothing is said of it.
+pub fn leave_after(
     alloc: Global,
     step: &FlatStep,
     state: &FlatState,
-) -> Result<FlatState, AllocError>
+    after: &mut FlatState,
+) -> Result<(), AllocError>
     requires facts { IsAscending state.now.facts }
     requires deletes { IsAscending step.now.deletes }
     requires changes { AreAmounts (length state.now.values) (2 ^ 62) step.now.changes }
     requires small { AreBelow (2 ^ 87) state.now.values }
-    ensures { IfOk result (λ after. after ≡ state_after step.now state.now) }
+    ensures { OnOk result (after.new ≡ state_after step.now state.now) }
 {
-    Ok(FlatState {
-        facts: facts_after(alloc, step, state.facts.as_slice())?,
-        values: values_after(alloc, step.changes.as_slice(), state.values.as_slice())?,
-    })
+    leave_facts(alloc, step, state.facts.as_slice(), &mut after.facts)?;
+    copy_values(alloc, state.values.as_slice(), &mut after.values)?;
+    make_changes(&mut after.values, step.changes.as_slice());
+    Ok(())
+}
+
+/// Leaves the facts after a step in `after`. They stay where they are there already, and the step names none.
+fn leave_facts(
+    alloc: Global,
+    step: &FlatStep,
+    facts: &[u32],
+    after: &mut Items<u32>,
+) -> Result<(), AllocError>
+    requires facts { IsAscending facts.now }
+    requires deletes { IsAscending step.now.deletes }
+    ensures { OnOk result (after.new ≡ facts_after step.now facts.now) }
+{
+    if step.adds.is_empty() && step.deletes.is_empty() && after.as_slice() == facts {
+        return Ok(());
+    }
+    *after = facts_after(alloc, step, facts)?;
+    Ok(())
 }
 
 /// The facts after a step: those that it doesn't delete, and those that it adds.
@@ -50,28 +70,37 @@ fn without(alloc: Global, facts: &[u32], deletes: &[u32]) -> Result<Vec<u32>, Al
         .collect(alloc)
 }
 
-/// The values after all changes.
-fn values_after(
-    alloc: Global,
-    changes: &[(u32, i128)],
-    values: &[i128],
-) -> Result<Items<i128>, AllocError>
-    requires changes { AreAmounts (length values.now) (2 ^ 62) changes.now }
-    requires small { AreBelow (2 ^ 87) values.now }
-    ensures { IfOk result (λ after. after ≡ all_changed changes.now values.now) }
+/// Leaves a copy of the values. Memory is taken only where there were fewer or more values before.
+fn copy_values(alloc: Global, values: &[i128], copy: &mut Items<i128>) -> Result<(), AllocError>
+    ensures { OnOk result (copy.new ≡ values.now) }
 {
-    let mut after = Vec::from_slice(alloc, values)?;
-    make_changes(after.as_mut_slice(), changes);
-    Ok(Items::from_vec(after))
+    if copy.len() == values.len() {
+        overwrite(copy, values);
+    } else {
+        *copy = Items::from_slice(alloc, values)?;
+    }
+    Ok(())
+}
+
+/// Writes these values over as many others.
+fn overwrite(values: &mut Items<i128>, others: &[i128])
+    requires { length values.old ≡ length others.now }
+    ensures { values.new ≡ others.now }
+{
+    for (number, value) in others.iter().enumerate() {
+        values.set(number, *value);
+    }
 }
 
 /// Adds all changes.
-fn make_changes(values: &mut [i128], changes: &[(u32, i128)])
+fn make_changes(values: &mut Items<i128>, changes: &[(u32, i128)])
     requires changes { AreAmounts (length values.old) (2 ^ 62) changes.now }
     requires small { AreBelow (2 ^ 87) values.old }
     ensures { values.new ≡ all_changed changes.now values.old }
 {
     for (number, change) in changes {
-        values[*number as usize] += *change;
+        let number = *number as usize;
+        let value = values.as_slice()[number];
+        values.set(number, value + *change);
     }
 }

@@ -119,7 +119,8 @@ fn takes_a_step(rt: HostRuntime) -> Result<(), Fail> {
     assert!(rt; !flat.is_goal(start));
     assert!(rt; !flat.applicable(1, start));
     assert!(rt; flat.applicable(0, start));
-    let after = flat.after(rt.alloc(), 0, start)?;
+    let mut after = flat.after(rt.alloc(), 0, start)?;
+    flat.after_in(rt.alloc(), 0, start, &mut after)?;
     assert_eq!(rt; after.facts.as_slice(), &[0][..]);
     assert_eq!(rt; after.values.as_slice(), &[2, -1][..]);
     Ok(())

@@ -63,7 +63,7 @@ pub trait Shelf {
     /// Reads the file under a name, if it has at most `limit` bytes.
     ///
     /// `Failed` comes only where the read failed in this call, as that of a name under which nothing stands does. Then
-    /// that one failure is counted, unless the count stands at its end; every other answer leaves the counts. `TooLong`
+    /// that one failure is counted, unless the count stands at 2^64 - 1; every other answer leaves the counts. `TooLong`
     /// comes only where the file is longer. No call changes a file.
     fn fetch(&mut self, alloc: Global, name: &str, limit: usize) -> Result<Vec<u8>, Fetch>
         ensures within { IfOk result (λ bytes. length bytes.items ≤ limit) }
@@ -85,7 +85,7 @@ pub trait Shelf {
     /// Writes the bytes as the whole file under a name.
     ///
     /// `Failed` comes only where the write failed in this call, and leaves a prefix of the bytes under the name. Then that
-    /// one failure is counted, unless the count stands at its end; every other answer leaves the counts, so a caller that
+    /// one failure is counted, unless the count stands at 2^64 - 1; every other answer leaves the counts, so a caller that
     /// tries a failed write again can't hide it. After `Memory` nothing has changed. Other names stay in every case.
     fn put(&mut self, name: &str, bytes: &[u8]) -> Result<(), Give>
         ensures ok { OnOk result (Changes (files self.old) (files self.new) (HasPut name.now bytes.now)) }

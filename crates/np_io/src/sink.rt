@@ -17,7 +17,7 @@ pub trait Sink {
     /// Appends a piece.
     ///
     /// `Failed` comes only where the push failed in this call, and leaves a prefix of the piece behind what stood. Then
-    /// that one failure is counted, unless the count stands at its end; every other answer leaves the count. After `Memory`
+    /// that one failure is counted, unless the count stands at 2^64 - 1; every other answer leaves the count. After `Memory`
     /// nothing has changed.
     fn push(&mut self, bytes: &[u8]) -> Result<(), Give>
         ensures ok { OnOk result (Changes (pushed self.old) (pushed self.new) (HasPushed bytes.now)) }

@@ -1,6 +1,10 @@
 pub mod Comments
-pub mod Lines
+pub mod Digits
+pub mod Fronts
+pub mod LineCounts
 pub mod LongestLaw
+pub mod Names
+pub mod NumberFronts
 pub mod Pieces
 pub mod Printed
 pub mod Readings

@@ -1,7 +1,7 @@
 -- The first token is the longest.
-use Rattle.std.proofs.Common.{◌≡◌, ℕ, suc, ◌+◌, ◌<◌, ◌≤◌, Bool, true, false, not, cond, ◌||◌, ◌&&◌, ◌⊎◌, inl, inr, ⊎_elim, List, [], ◌∷◌, ◌++◌, length, take, drop, Option, None, Some, refl, sym, ◌∙◌, ap, subst, arith, length-append, append_assoc}
+use Rattle.std.proofs.Common.{◌≡◌, ℕ, suc, ◌+◌, ◌<◌, ◌≤◌, Bool, true, false, cond, ◌||◌, ◌&&◌, ◌⊎◌, inl, inr, ⊎_elim, List, [], ◌∷◌, ◌++◌, length, take, drop, Option, None, Some, refl, sym, ◌∙◌, ap, subst, arith, length-append, append_assoc}
 use Rattle.std.specs.Prelude.{◌==◌, All, IfSome}
-use Rattle.std.specs.List.{list_all, AllPass, prefix_len}
+use Rattle.std.specs.List.{list_all, prefix_len}
 use Rattle.std.specs.Int.{is_in_range}
 use Rattle.std.specs.Char.{is_ascii}
 use Rattle.std.proofs.lemmas.List.Sums.{AllPass-from_list_all}
@@ -11,7 +11,6 @@ use Rattle.std.proofs.lemmas.Bool.Decides.{nat_tests}
 use Rattle.std.proofs.lemmas.List.{drop_at}
 use Rattle.np_lex.specs.declared.token.Kind.{Kind}
 use Rattle.np_lex.specs.declared.token.Kind.TheVariants.{Left, Right, Name, Variable, Keyword, Colon, Number, Op}
-use Rattle.np_lex.specs.Blanks.{is_line_feed}
 use Rattle.np_lex.specs.FirstToken.{is_letter, is_digit, is_name_byte, begins_with_letter, begins_with_digit, begins_with_equals, point_length, number_length, mark_token, first_token}
 use Rattle.np_lex.specs.LongestToken.{IsToken, IsUnsigned, is_name, is_digits, is_operator, TakesLongest}
 use Rattle.np_lex.proofs.Streams.{TakesUpTo, first_token-range}
@@ -46,7 +45,7 @@ pub is_digit-letter : (b : ℕ) → is_digit b ≡ true → is_letter b ≡ fals
 is_digit-letter b digit = grind (arith, nat_tests)
 
 -- the run in front of a list whose elements all pass, and of another behind it
-prefix_len-append_all : (p : ℕ → Bool) (xs ys : List ℕ) → list_all p xs ≡ true → prefix_len p (xs ++ ys) ≡ length xs + prefix_len p ys
+pub prefix_len-append_all : (p : ℕ → Bool) (xs ys : List ℕ) → list_all p xs ≡ true → prefix_len p (xs ++ ys) ≡ length xs + prefix_len p ys
 prefix_len-append_all p [] ys all = omega arith
 prefix_len-append_all p (x ∷ xs) ys all =
     let rest = prefix_len-append_all p xs ys (and_second (p x) (list_all p xs) all) in
@@ -342,62 +341,52 @@ list_all-append p [] ys first second = second
 list_all-append p (x ∷ xs) ys first second =
     rw (and_first (p x) (list_all p xs) first, list_all-append p xs ys (and_second (p x) (list_all p xs) first) second) refl
 
--- an ASCII byte that ends no line
-abbrev is_plain : ℕ → Bool
-is_plain b = is_ascii b && not (is_line_feed b)
+-- what may stand in a name is ASCII
+name_byte_is_ascii : (b : ℕ) → is_name_byte b ≡ true → is_ascii b ≡ true
+name_byte_is_ascii b name = grind (arith, nat_tests)
 
--- what may stand in a name is plain
-name_byte_is_plain : (b : ℕ) → is_name_byte b ≡ true → is_plain b ≡ true
-name_byte_is_plain b name = grind (arith, nat_tests)
+-- a digit is ASCII
+digit_is_ascii : (b : ℕ) → is_digit b ≡ true → is_ascii b ≡ true
+digit_is_ascii b digit = grind (arith, nat_tests)
 
--- a digit is plain
-digit_is_plain : (b : ℕ) → is_digit b ≡ true → is_plain b ≡ true
-digit_is_plain b digit = grind (arith, nat_tests)
+-- a name is ASCII
+name_is_ascii : (text : List ℕ) → is_name text ≡ true → list_all is_ascii text ≡ true
+name_is_ascii [] name = refl
+name_is_ascii (b ∷ bs) name =
+    rw (name_byte_is_ascii b (is_letter-name_byte b (and_first (is_letter b) (list_all is_name_byte bs) name)))
+    (list_all-weaken is_name_byte is_ascii name_byte_is_ascii bs (and_second (is_letter b) (list_all is_name_byte bs) name))
 
--- a name is plain
-name_is_plain : (text : List ℕ) → is_name text ≡ true → list_all is_plain text ≡ true
-name_is_plain [] name = refl
-name_is_plain (b ∷ bs) name =
-    rw (name_byte_is_plain b (is_letter-name_byte b (and_first (is_letter b) (list_all is_name_byte bs) name)))
-    (list_all-weaken is_name_byte is_plain name_byte_is_plain bs (and_second (is_letter b) (list_all is_name_byte bs) name))
+-- digits are ASCII
+digits_are_ascii : (text : List ℕ) → is_digits text ≡ true → list_all is_ascii text ≡ true
+digits_are_ascii text digits = list_all-weaken is_digit is_ascii digit_is_ascii text (digits_all text digits)
 
--- digits are plain
-digits_are_plain : (text : List ℕ) → is_digits text ≡ true → list_all is_plain text ≡ true
-digits_are_plain text digits = list_all-weaken is_digit is_plain digit_is_plain text (digits_all text digits)
+-- a number is ASCII
+unsigned_is_ascii : (text : List ℕ) → IsUnsigned text → list_all is_ascii text ≡ true
+unsigned_is_ascii text (inl digits) = digits_are_ascii text digits
+unsigned_is_ascii text (inr decimal) =
+    ap (list_all is_ascii) decimal.text_is
+    ∙ list_all-append is_ascii decimal.whole (46 ∷ decimal.fraction) (digits_are_ascii decimal.whole decimal.whole_digits) (digits_are_ascii decimal.fraction decimal.fraction_digits)
 
--- a number is plain
-unsigned_is_plain : (text : List ℕ) → IsUnsigned text → list_all is_plain text ≡ true
-unsigned_is_plain text (inl digits) = digits_are_plain text digits
-unsigned_is_plain text (inr decimal) =
-    ap (list_all is_plain) decimal.text_is
-    ∙ list_all-append is_plain decimal.whole (46 ∷ decimal.fraction) (digits_are_plain decimal.whole decimal.whole_digits) (digits_are_plain decimal.fraction decimal.fraction_digits)
-
--- an operator is plain
-operator_is_plain : (text : List ℕ) → is_operator text ≡ true → list_all is_plain text ≡ true
-operator_is_plain [] operator = refl
-operator_is_plain (b ∷ []) operator = grind (arith, nat_tests)
-operator_is_plain (b ∷ c ∷ []) operator = grind (arith, nat_tests)
-operator_is_plain (b ∷ c ∷ d ∷ bs) operator = cc
+-- an operator is ASCII
+operator_is_ascii : (text : List ℕ) → is_operator text ≡ true → list_all is_ascii text ≡ true
+operator_is_ascii [] operator = refl
+operator_is_ascii (b ∷ []) operator = grind (arith, nat_tests)
+operator_is_ascii (b ∷ c ∷ []) operator = grind (arith, nat_tests)
+operator_is_ascii (b ∷ c ∷ d ∷ bs) operator = cc
 
 -- each byte of a token passes the test
-token_passes : (kind : Kind) (text : List ℕ) → IsToken kind text → list_all is_plain text ≡ true
-token_passes Left text token = ap (list_all is_plain) token
-token_passes Right text token = ap (list_all is_plain) token
-token_passes Name text token = name_is_plain text token
-token_passes Variable text token = ap (list_all is_plain) token.text_is ∙ name_is_plain token.rest token.holds
-token_passes Keyword text token = ap (list_all is_plain) token.text_is ∙ name_is_plain token.rest token.holds
-token_passes Colon text token = ap (list_all is_plain) token
-token_passes Number text (inl unsigned) = unsigned_is_plain text unsigned
-token_passes Number text (inr signed) = ap (list_all is_plain) signed.text_is ∙ unsigned_is_plain signed.rest signed.holds
-token_passes Op text token = operator_is_plain text token
+token_passes : (kind : Kind) (text : List ℕ) → IsToken kind text → list_all is_ascii text ≡ true
+token_passes Left text token = ap (list_all is_ascii) token
+token_passes Right text token = ap (list_all is_ascii) token
+token_passes Name text token = name_is_ascii text token
+token_passes Variable text token = ap (list_all is_ascii) token.text_is ∙ name_is_ascii token.rest token.holds
+token_passes Keyword text token = ap (list_all is_ascii) token.text_is ∙ name_is_ascii token.rest token.holds
+token_passes Colon text token = ap (list_all is_ascii) token
+token_passes Number text (inl unsigned) = unsigned_is_ascii text unsigned
+token_passes Number text (inr signed) = ap (list_all is_ascii) signed.text_is ∙ unsigned_is_ascii signed.rest signed.holds
+token_passes Op text token = operator_is_ascii text token
 
 -- a token is of ASCII bytes
 pub token_is_ascii : (kind : Kind) (text : List ℕ) → IsToken kind text → All (λ b. b < 128) text
 token_is_ascii kind text token k d within =
-    ltb-true _ _ (AllPass-from_list_all is_ascii text (list_all-weaken is_plain is_ascii (λ b plain. and_first (is_ascii b) (not (is_line_feed b)) plain) text (token_passes kind text token)) k d within)
-
--- no byte of a token ends a line
-pub token_in_line : (kind : Kind) (text : List ℕ) → IsToken kind text → AllPass (λ b. not (is_line_feed b)) text
-token_in_line kind text token =
-    AllPass-from_list_all (λ b. not (is_line_feed b)) text
-    (list_all-weaken is_plain (λ b. not (is_line_feed b)) (λ b plain. and_second (is_ascii b) (not (is_line_feed b)) plain) text (token_passes kind text token))
+    ltb-true _ _ (AllPass-from_list_all is_ascii text (token_passes kind text token) k d within)

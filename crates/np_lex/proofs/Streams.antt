@@ -1,8 +1,8 @@
 -- The tokens from an offset on are the next one and those behind it.
-use Rattle.std.proofs.Common.{◌≡◌, ℕ, zero, suc, ◌+◌, ◌-◌, ◌<◌, ◌≤◌, Bool, true, false, not, cond, List, [], ◌∷◌, length, drop, Option, None, Some, refl, ◌∙◌, ap, arith, length-drop}
+use Rattle.std.proofs.Common.{◌≡◌, ℕ, zero, suc, ◌+◌, ◌-◌, ◌<◌, ◌≤◌, Bool, true, false, not, cond, List, [], ◌∷◌, length, drop, Option, None, Some, refl, sym, ◌∙◌, ap, arith, length-drop}
 use Rattle.std.specs.Prelude.{◌==◌, ◌&&◌, IfSome}
 use Rattle.std.specs.List.{prefix_len}
-use Rattle.std.proofs.lemmas.List.{drop_all}
+use Rattle.std.proofs.lemmas.List.{drop_all, drop-drop}
 use Rattle.std.proofs.lemmas.List.Sums.{prefix_len-le-length}
 use Rattle.np_lex.specs.declared.token.Kind.{Kind}
 use Rattle.np_lex.specs.declared.token.Kind.TheVariants.{Left, Right, Name, Variable, Keyword, Colon, Number, Op}
@@ -145,3 +145,45 @@ tokens_from-step text offset within =
     (λ span e.
     let range = next_from-range text offset span within e in
     tokens_within-same (length text) (length text - span.to) text span.to range.1 (omega arith) (omega arith))
+
+-- behind the blanks in front no blank stands
+blanks_end_by : (b : ℕ) (bs : List ℕ) (comment blank : Bool) → b == 59 ≡ comment → is_blank b ≡ blank → blank_length (drop (blanks_from true bs) bs) ≡ 0 → blank_length (drop (blanks_from false bs) bs) ≡ 0 → blank_length (drop (cond comment (suc (blanks_from true bs)) (cond blank (suc (blanks_from false bs)) 0)) (b ∷ bs)) ≡ 0
+blanks_end_by b bs true blank first second in_comment outside = in_comment
+blanks_end_by b bs false true first second in_comment outside = outside
+blanks_end_by b bs false false first second in_comment outside = rw (first, second) refl
+
+blanks_end : (in_comment : Bool) (bs : List ℕ) → blank_length (drop (blanks_from in_comment bs) bs) ≡ 0
+blanks_end in_comment [] = refl
+blanks_end true (b ∷ bs) = blanks_end (not (is_line_feed b)) bs
+blanks_end false (b ∷ bs) = blanks_end_by b bs (b == 59) (is_blank b) refl refl (blanks_end true bs) (blanks_end false bs)
+
+-- the offset behind the blanks that stand at one
+abbrev pub behind_blanks : List ℕ → ℕ → ℕ
+behind_blanks text n = n + blank_length (drop n text)
+
+pub behind_blanks-le : (text : List ℕ) (n : ℕ) → n ≤ length text → behind_blanks text n ≤ length text
+behind_blanks-le text n within = omega (arith, blanks_from-le false (drop n text), length-drop n text)
+
+pub no_blanks_ahead : (text : List ℕ) → blank_length (drop (blank_length text) text) ≡ 0
+no_blanks_ahead text = blanks_end false text
+
+pub no_blanks_behind : (text : List ℕ) (n : ℕ) → blank_length (drop (behind_blanks text n) text) ≡ 0
+no_blanks_behind text n = ap blank_length (sym (drop-drop (blank_length (drop n text)) n text)) ∙ blanks_end false (drop n text)
+
+-- what comes next where no blank stands
+pub next_from-here : (text : List ℕ) (n : ℕ) → blank_length (drop n text) ≡ 0 → next_from text n ≡ begun_at n (drop n text)
+next_from-here text n none =
+    let here : n + blank_length (drop n text) ≡ n = omega (arith, none) in
+    ap (λ (m : ℕ). begun_at m (drop m text)) here
+
+-- blanks in front change no tokens
+pub tokens_from-blanks : (text : List ℕ) (n : ℕ) → n ≤ length text → tokens_from text (behind_blanks text n) ≡ tokens_from text n
+tokens_from-blanks text n within =
+    tokens_from-step text (behind_blanks text n) (behind_blanks-le text n within)
+    ∙ ap (λ (next : Next). and_then next (tokens_from text)) (next_from-here text (behind_blanks text n) (no_blanks_behind text n))
+    ∙ sym (tokens_from-step text n within)
+
+pub tokens_from-start : (text : List ℕ) → tokens_from text (blank_length text) ≡ tokens_from text 0
+tokens_from-start text =
+    let here : blank_length text ≡ behind_blanks text 0 = omega arith in
+    ap (tokens_from text) here ∙ tokens_from-blanks text 0 (omega arith)

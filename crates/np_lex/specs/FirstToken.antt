@@ -17,6 +17,11 @@ is_digit b = is_ascii_digit b
 abbrev pub is_name_byte : ℕ → Bool
 is_name_byte b = is_ascii_alphanumeric b || b == 45 || b == 95
 
+-- whether the first byte is one of a name
+abbrev pub begins_with_name_byte : List ℕ → Bool
+begins_with_name_byte [] = false
+begins_with_name_byte (b ∷ bs) = is_name_byte b
+
 -- whether the first byte is a letter
 abbrev pub begins_with_letter : List ℕ → Bool
 begins_with_letter [] = false
@@ -60,3 +65,10 @@ first_token (b ∷ bs) =
     if is_letter b then Some (Name, suc (prefix_len is_name_byte bs))
     else (if is_digit b then Some (Number, number_length (b ∷ bs))
     else mark_token b bs)
+
+-- the length of the number that is the longest token in front, if one is
+abbrev pub first_number : List ℕ → Option ℕ
+first_number [] = None
+first_number (b ∷ bs) =
+    if is_digit b then Some (number_length (b ∷ bs))
+    else (if b == 45 && begins_with_digit bs then Some (suc (number_length bs)) else None)

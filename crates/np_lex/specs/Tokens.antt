@@ -1,8 +1,9 @@
 -- The tokens of a text.
-use Rattle.std.specs.Prelude.{ℕ, suc, zero, ◌+◌, ◌-◌, List, [], ◌∷◌, ◌++◌, length, not, take, drop, map, Option, None, Some}
+use Rattle.std.specs.Prelude.{◌≡◌, ℕ, suc, zero, ◌+◌, ◌-◌, List, [], ◌∷◌, ◌++◌, length, not, take, drop, map, Option, None, Some, codes}
 use Rattle.std.specs.Char.{to_ascii_lowercase}
 use Rattle.std.specs.List.{slice_range, count_by, suffix_len}
 use Rattle.np_lex.specs.declared.token.Kind.{Kind}
+use Rattle.np_lex.specs.declared.token.Kind.TheVariants.{Left, Right, Name, Number}
 use Rattle.np_lex.specs.declared.token.Place.{Place}
 use Rattle.np_lex.specs.declared.token.Token.{Token}
 use Rattle.np_lex.specs.Blanks.{blank_length, is_line_feed}
@@ -11,6 +12,11 @@ use Rattle.np_lex.specs.FirstToken.{first_token}
 -- the bytes with each capital letter as a small one
 abbrev pub lower : List ℕ → List ℕ
 lower text = map to_ascii_lowercase text
+
+-- the name, which is of small letters, is the longest token in front
+pub record BeginsWithName (bytes name : List ℕ) : Type 0 where
+  pub first : first_token bytes ≡ Some (Name, length name)
+  pub text : lower (take (length name) bytes) ≡ name
 
 -- the place of an offset: the line counts the line feeds before it, and the column the bytes since the last of them, both from 1
 abbrev pub place_of : List ℕ → ℕ → Place
@@ -91,6 +97,22 @@ tokens_of text = tokens_from text 0
 pub record Lexeme : Type 0 where
   pub kind : Kind
   pub text : List ℕ
+
+-- an opening bracket
+abbrev pub left : Lexeme
+left = record { kind = Left; text = codes "(" }
+
+-- a closing bracket
+abbrev pub right : Lexeme
+right = record { kind = Right; text = codes ")" }
+
+-- this name, which is of small letters
+abbrev pub named : List ℕ → Lexeme
+named text = record { kind = Name; text = text }
+
+-- the number with this text
+abbrev pub numeral : List ℕ → Lexeme
+numeral text = record { kind = Number; text = text }
 
 -- what the token of the text says
 abbrev pub lexeme_of : List ℕ → Span → Lexeme

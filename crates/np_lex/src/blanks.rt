@@ -32,7 +32,11 @@ pub fn blank_length(bytes: &[u8]) -> usize
     let mut n = 0;
     while n < bytes.len() {
         let byte = bytes[n];
-        if byte == b';' {
+        if byte > b' ' {
+            // Mostly a token begins here, and one comparison tells.
+            if byte != b';' {
+                break;
+            }
             n += line_length(&bytes[n..]);
         } else if is_blank(byte) {
             n += 1;

@@ -1,12 +1,15 @@
-//! The tokens of the texts that the planner reads: domains, problems, plans and certificates.
+//! The tokens of the texts that the planner reads: domains, problems and certificates.
 #![tactic(auto)]
 
 mod blanks;
+mod lines;
 mod longest;
-pub mod reading;
-pub mod token;
-pub mod words;
+mod numbers;
+mod reading;
+mod token;
+mod words;
 
+pub use numbers::decimal_in_front;
 pub use reading::Lexer;
 pub use token::{BadByte, Kind, Place, Token};
 pub use words::{is_word, lowered};

@@ -1,10 +1,13 @@
 //! The longest token in front.
 
-ghost use Rattle.std.specs.Prelude.{◌≡◌, ◌+◌, ◌≤◌, length, IfSome};
+ghost use Rattle.std.specs.Prelude.{◌≡◌, ◌↔◌, ◌+◌, ◌≤◌, length, IsTrue, IfSome};
 ghost use Rattle.std.specs.List.{prefix_len};
-ghost use Rattle.np_lex.specs.FirstToken.{is_letter, is_digit, is_name_byte, begins_with_letter, begins_with_digit, begins_with_equals, number_length, point_length, first_token, mark_token};
+ghost use Rattle.np_lex.specs.LongestToken.{is_name};
+ghost use Rattle.np_lex.specs.Tokens.{BeginsWithName, lower};
+ghost use Rattle.np_lex.specs.FirstToken.{is_letter, is_digit, is_name_byte, begins_with_name_byte, begins_with_letter, begins_with_digit, begins_with_equals, number_length, point_length, first_token, first_number, mark_token};
 
 use crate::token::Kind;
+use crate::words::is_small_word;
 
 fn is_name_byte(byte: u8) -> bool
     ensures { result ≡ is_name_byte byte }
@@ -34,6 +37,13 @@ fn digits_length(bytes: &[u8]) -> usize
     n
 }
 
+fn begins_with_name_byte(bytes: &[u8]) -> bool
+    ensures { result ≡ begins_with_name_byte bytes.now }
+{
+    // A blank or a bracket, at which most names end, is below `-`, so that one comparison is enough.
+    matches!(bytes, [first, ..] if *first >= b'-' && is_name_byte(*first))
+}
+
 fn begins_with_letter(bytes: &[u8]) -> bool
     ensures { result ≡ begins_with_letter bytes.now }
 {
@@ -53,7 +63,7 @@ fn begins_with_equals(bytes: &[u8]) -> bool
 }
 
 /// The length of a point and the digits behind it, or 0 where there is none.
-fn point_length(bytes: &[u8]) -> usize
+pub fn point_length(bytes: &[u8]) -> usize
     ensures value { result ≡ point_length bytes.now }
     ensures in_range { result ≤ length bytes.now }
 {
@@ -103,5 +113,31 @@ pub fn first_token(bytes: &[u8]) -> Option<(Kind, usize)>
         )),
         [first, ..] if first.is_ascii_digit() => Some((Kind::Number, number_length(bytes))),
         [first, rest @ ..] => mark_token(*first, rest),
+    }
+}
+
+/// Whether the longest token in front is this name, which is of small letters and read in any case.
+#[inline(always)]
+pub fn begins_with_name(bytes: &[u8], name: &[u8]) -> bool
+    requires name { IsTrue (is_name name.now) }
+    requires small { lower name.now ≡ name.now }
+    ensures { IsTrue result ↔ BeginsWithName bytes.now name.now }
+{
+    if bytes.len() < name.len() {
+        return false;
+    }
+    let (front, rest) = bytes.split_at(name.len());
+    is_small_word(front, name) && !begins_with_name_byte(rest)
+}
+
+/// The length of the number that is the longest token in front, if one is.
+pub fn first_number(bytes: &[u8]) -> Option<usize>
+    ensures value { result ≡ first_number bytes.now }
+    ensures in_range { IfSome result (λ length_taken. length_taken ≤ length bytes.now) }
+{
+    match bytes {
+        [first, ..] if first.is_ascii_digit() => Some(number_length(bytes)),
+        [b'-', rest @ ..] if begins_with_digit(rest) => Some(1 + number_length(rest)),
+        _ => None,
     }
 }

@@ -1,32 +1,37 @@
 //! Reading tokens one by one.
 
-ghost use Rattle.std.specs.Prelude.{◌≡◌, ◌+◌, ◌<◌, ◌≤◌, ◌^◌, not, length, take, drop};
-ghost use Rattle.std.specs.List.{AllPass, count_by, suffix_len};
-ghost use Rattle.np_lex.specs.Blanks.{is_line_feed};
+ghost use Rattle.std.specs.Prelude.{◌≡◌, ◌+◌, ◌<◌, ◌≤◌, ◌^◌, length, take, drop};
+ghost use Rattle.np_lex.specs.Blanks.{blank_length};
+ghost use Rattle.np_lex.specs.Lines.{CountsLines};
 
 use crate::blanks::blank_length;
-use crate::longest::first_token;
+use crate::lines::Lines;
+use crate::longest::{begins_with_name, first_number, first_token};
+use crate::numbers::natural_in_front;
 use crate::token::{BadByte, Place, Token};
 
 /// Reads the tokens of a text. It takes no memory, and a copy of it looks ahead.
 #[derive(Clone, Copy, Debug)]
 pub struct Lexer<'a> {
     bytes: &'a [u8],
-    // The bytes before it were read.
+    // The offset of the next byte: what stands before it was read, and neither a blank nor a comment begins there.
     offset: usize,
-    // How many line feeds stand before it, and how many bytes since the last of them.
-    lines: usize,
-    columns: usize,
+    // Lines are counted where a place is asked for. They were counted up to this offset, and `lines` are those before it.
+    counted: usize,
+    lines: Lines,
     ghost in_range: { offset ≤ length bytes.now },
-    ghost lines_counted: { lines ≡ count_by is_line_feed (take offset bytes.now) },
-    ghost columns_counted: { columns ≡ suffix_len (λ b. not (is_line_feed b)) (take offset bytes.now) },
+    ghost no_blank_next: { blank_length (drop offset bytes.now) ≡ 0 },
+    ghost counted_in_range: { counted ≤ offset },
+    ghost lines_counted: { CountsLines lines (take counted bytes.now) },
 }
 
 impl<'a> Lexer<'a> {
-    ghost use Rattle.std.specs.Prelude.{IfOk, IfErr, IfSome, IfNone};
+    ghost use Rattle.std.specs.Prelude.{◌↔◌, IsTrue, IfOk, IfErr, IfSome, IfNone, false, decimal};
     ghost use Rattle.std.specs.List.{slice_range};
-    ghost use Rattle.np_lex.specs.Tokens.{place_of, tokens_of, pieces};
-    ghost use Rattle.np_lex.specs.Lexers.{bytes_of, tokens_left, pieces_left, GivesToken, FindsEnd, FindsBadByte};
+    ghost use Rattle.np_lex.specs.LongestToken.{is_name};
+    ghost use Rattle.np_lex.specs.declared.token.Kind.TheVariants.{Number};
+    ghost use Rattle.np_lex.specs.Tokens.{place_of, tokens_of, pieces, lower, left, right, named, numeral};
+    ghost use Rattle.np_lex.specs.Lexers.{bytes_of, tokens_left, pieces_left, GivesToken, FindsEnd, FindsBadByte, IsNextByte, IsShortNatural, Takes, Leaves};
 
     /// Reads the text from its first byte on.
     #[tactic(auto, unfolding(crate::specs::Lexers::bytes_of, crate::specs::Lexers::tokens_left, crate::specs::Lexers::pieces_left))]
@@ -37,9 +42,12 @@ impl<'a> Lexer<'a> {
     {
         Lexer {
             bytes,
-            offset: 0,
-            lines: 0,
-            columns: 0,
+            offset: blank_length(bytes),
+            counted: 0,
+            lines: Lines {
+                feeds: 0,
+                columns: 0,
+            },
         }
     }
 
@@ -51,25 +59,95 @@ impl<'a> Lexer<'a> {
         ensures end { IfOk result (λ next. IfNone next (FindsEnd self.old self.new)) }
         ensures bad_byte { IfErr result (FindsBadByte self.old self.new) }
     {
-        let from = self.offset + blank_length(&self.bytes[self.offset..]);
+        let from = self.offset;
         let rest = &self.bytes[from..];
         if rest.is_empty() {
             return Ok(None);
         }
-        let mut ahead = *self;
-        ahead.skip_to(from);
-        let place = ahead.place();
+        let lines = self.lines_before(from);
+        let place = Place {
+            offset: from,
+            line: lines.feeds + 1,
+            column: lines.columns + 1,
+        };
         let Some((kind, length)) = first_token(rest) else {
             return Err(BadByte { place });
         };
-        ahead.skip_in_line(length);
-        *self = ahead;
+        let to = from + length;
+        *self = Lexer {
+            bytes: self.bytes,
+            offset: self.behind_blanks(to),
+            counted: from,
+            lines,
+        };
         Ok(Some(Token {
             kind,
             from,
-            to: from + length,
+            to,
             place,
         }))
+    }
+
+    /// Whether an opening bracket comes next. If so it was read, else the lexer is as before.
+    #[inline(always)]
+    pub fn take_left(&mut self) -> bool
+        ensures bytes { bytes_of self.new ≡ bytes_of self.old }
+        ensures taken { IsTrue result → Takes self.old self.new left }
+        ensures other { result ≡ false → Leaves self.old self.new (λ lexeme. lexeme ≡ left) }
+    {
+        self.take_byte(b'(')
+    }
+
+    /// Whether a closing bracket comes next. If so it was read, else the lexer is as before.
+    #[inline(always)]
+    pub fn take_right(&mut self) -> bool
+        ensures bytes { bytes_of self.new ≡ bytes_of self.old }
+        ensures taken { IsTrue result → Takes self.old self.new right }
+        ensures other { result ≡ false → Leaves self.old self.new (λ lexeme. lexeme ≡ right) }
+    {
+        self.take_byte(b')')
+    }
+
+    /// Whether this name, which is of small letters and read in any case, comes next. If so it was read, else the lexer is
+    /// as before.
+    #[inline(always)]
+    pub fn take_name(&mut self, name: &[u8]) -> bool
+        requires name { IsTrue (is_name name.now) }
+        requires small { lower name.now ≡ name.now }
+        ensures bytes { bytes_of self.new ≡ bytes_of self.old }
+        ensures taken { IsTrue result → Takes self.old self.new (named name.now) }
+        ensures other { result ≡ false → Leaves self.old self.new (λ lexeme. lexeme ≡ named name.now) }
+    {
+        let found = begins_with_name(&self.bytes[self.offset..], name);
+        if found {
+            self.pass(name.len());
+        }
+        found
+    }
+
+    /// The bytes of the number that comes next. If one does it was read, else the lexer is as before.
+    pub fn take_number(&mut self) -> Option<&'a [u8]>
+        ensures bytes { bytes_of self.new ≡ bytes_of self.old }
+        ensures taken { IfSome result (λ text. Takes self.old self.new (numeral (lower text.now))) }
+        ensures other { IfNone result (Leaves self.old self.new (λ lexeme. lexeme.kind ≡ Number)) }
+    {
+        let from = self.offset;
+        let length = first_number(&self.bytes[from..])?;
+        self.pass(length);
+        Some(&self.bytes[from..from + length])
+    }
+
+    /// The number that comes next, if at most 18 digits write it, without a sign and without a leading zero other than 0
+    /// itself. If so it was read, else the lexer is as before.
+    pub fn take_natural(&mut self) -> Option<u64>
+        ensures bytes { bytes_of self.new ≡ bytes_of self.old }
+        ensures taken { IfSome result (λ number. Takes self.old self.new (numeral (decimal number))) }
+        ensures stays { IfNone result (self.new ≡ self.old) }
+        ensures other { IfNone result (Leaves self.old self.new IsShortNatural) }
+    {
+        let (number, length) = natural_in_front(&self.bytes[self.offset..])?;
+        self.pass(length);
+        Some(number)
     }
 
     /// The whole text.
@@ -96,67 +174,73 @@ impl<'a> Lexer<'a> {
         ensures offset { result.offset ≡ length (bytes_of self.now) }
         ensures place { length (bytes_of self.now) < 2 ^ 63 → result ≡ place_of (bytes_of self.now) (length (bytes_of self.now)) }
     {
-        let mut behind = *self;
-        behind.skip_to(self.bytes.len());
+        let offset = self.bytes.len();
+        let lines = self.lines_before(offset);
         Place {
-            offset: behind.offset,
-            line: behind.lines.saturating_add(1),
-            column: behind.columns.saturating_add(1),
+            offset,
+            line: lines.feeds.saturating_add(1),
+            column: lines.columns.saturating_add(1),
         }
     }
 
-    /// The place of the next byte.
-    #[tactic(auto, using(crate::proofs::Lines::lines_le, crate::proofs::Lines::columns_le))]
-    fn place(&self) -> Place
-        requires { self.now.offset < length self.now.bytes.now }
-        ensures { result ≡ place_of self.now.bytes.now self.now.offset }
+    /// The lines before this offset.
+    #[tactic(auto, using(crate::proofs::LineCounts::lines_le, crate::proofs::LineCounts::columns_le))]
+    fn lines_before(&self, to: usize) -> Lines
+        requires ordered { self.now.offset ≤ to }
+        requires in_range { to ≤ length self.now.bytes.now }
+        ensures { CountsLines result (take to self.now.bytes.now) }
     {
-        Place {
-            offset: self.offset,
-            line: self.lines + 1,
-            column: self.columns + 1,
-        }
-    }
-
-    /// Reads so many bytes, none of which ends a line.
-    #[tactic(auto, using(crate::proofs::Lines::in_line_adds, crate::proofs::Lines::columns_le))]
-    fn skip_in_line(&mut self, count: usize)
-        requires in_range { self.old.offset + count ≤ length self.old.bytes.now }
-        requires in_line { AllPass (λ b. not (is_line_feed b)) (take count (drop self.old.offset self.old.bytes.now)) }
-        ensures offset { self.new.offset ≡ self.old.offset + count }
-        ensures bytes { self.new.bytes ≡ self.old.bytes }
-    {
-        *self = Lexer {
-            bytes: self.bytes,
-            offset: self.offset + count,
-            lines: self.lines,
-            columns: self.columns + count,
-        };
-    }
-
-    /// Reads up to this offset.
-    #[tactic(auto, using(crate::proofs::Lines::lines_le, crate::proofs::Lines::columns_le))]
-    fn skip_to(&mut self, to: usize)
-        requires ordered { self.old.offset ≤ to }
-        requires in_range { to ≤ length self.old.bytes.now }
-        ensures offset { self.new.offset ≡ to }
-        ensures bytes { self.new.bytes ≡ self.old.bytes }
-    {
-        let mut lines = self.lines;
-        let mut columns = self.columns;
-        for offset in self.offset..to {
+        let mut feeds = self.lines.feeds;
+        let mut columns = self.lines.columns;
+        for offset in self.counted..to {
             if self.bytes[offset] == b'\n' {
-                lines += 1;
+                feeds += 1;
                 columns = 0;
             } else {
                 columns += 1;
             }
         }
+        Lines { feeds, columns }
+    }
+
+    /// The offset behind the blanks and comments that stand at this one.
+    #[inline(always)]
+    fn behind_blanks(&self, from: usize) -> usize
+        requires { from ≤ length self.now.bytes.now }
+        ensures value { result ≡ from + blank_length (drop from self.now.bytes.now) }
+        ensures in_range { result ≤ length self.now.bytes.now }
+        ensures no_blank { blank_length (drop result self.now.bytes.now) ≡ 0 }
+    {
+        from + blank_length(&self.bytes[from..])
+    }
+
+    /// Passes so many bytes, and the blanks and comments behind them.
+    #[inline(always)]
+    fn pass(&mut self, size: usize)
+        requires { self.old.offset + size ≤ length self.old.bytes.now }
+        ensures offset { self.new.offset ≡ self.old.offset + size + blank_length (drop (self.old.offset + size) self.old.bytes.now) }
+        ensures bytes { self.new.bytes ≡ self.old.bytes }
+    {
         *self = Lexer {
             bytes: self.bytes,
-            offset: to,
-            lines,
-            columns,
+            offset: self.behind_blanks(self.offset + size),
+            counted: self.counted,
+            lines: self.lines,
         };
+    }
+
+    /// Whether this byte comes next. If so it was read, else the lexer is as before.
+    #[inline(always)]
+    fn take_byte(&mut self, byte: u8) -> bool
+        ensures bytes { self.new.bytes ≡ self.old.bytes }
+        ensures taken { IsTrue result → self.new.offset ≡ self.old.offset + 1 + blank_length (drop (self.old.offset + 1) self.old.bytes.now) }
+        ensures next { IsTrue result ↔ IsNextByte self.old byte }
+        ensures stays { result ≡ false → self.new ≡ self.old }
+    {
+        let found = self.offset < self.bytes.len() && self.bytes[self.offset] == byte;
+        if found {
+            self.pass(1);
+        }
+        found
     }
 }

@@ -76,3 +76,29 @@ fn reads_tokens(rt: HostRuntime) -> Result<(), Fail> {
     assert_eq!(rt; (lexer.end().line, lexer.end().column), (2, 6));
     Ok(())
 }
+
+#[test]
+fn takes_what_is_wanted(rt: HostRuntime) -> Result<(), Fail> {
+    let mut lexer = Lexer::new(b"( Go-2 -1.5;)\n) 7x");
+    assert!(rt; !lexer.take_right());
+    assert!(rt; lexer.take_left());
+    assert!(rt; !lexer.take_name(b"go"));
+    assert!(rt; lexer.take_number().is_none());
+    assert!(rt; lexer.take_name(b"go-2"));
+    assert_eq!(rt; lexer.take_number(), Some(b"-1.5".as_slice()));
+    assert!(rt; !lexer.take_left());
+    assert!(rt; lexer.take_right());
+    let seven = lexer.next().ok().and_then(|token| token).ok_or("no token")?;
+    assert_eq!(rt; (seven.place.line, seven.place.column), (2, 3));
+    assert!(rt; lexer.take_name(b"x"));
+    assert!(rt; !lexer.take_name(b"x"));
+    let mut numbers = Lexer::new(b" 42 0)07 1.5 1234567890123456789");
+    assert_eq!(rt; numbers.take_natural(), Some(42));
+    assert_eq!(rt; numbers.take_natural(), Some(0));
+    assert!(rt; numbers.take_right());
+    for text in [b"07".as_slice(), b"1.5", b"1234567890123456789"] {
+        assert_eq!(rt; numbers.take_natural(), None);
+        assert_eq!(rt; numbers.take_number(), Some(text));
+    }
+    Ok(())
+}

@@ -7,6 +7,7 @@ ghost use Rattle.np_lex.specs.Tokens.{lower};
 use std::alloc::{AllocError, Global};
 
 /// Whether the text is this word, which is of small letters, with each letter of the text in either case.
+#[inline(never)]
 pub fn is_word(text: &[u8], word: &[u8]) -> bool
     ensures { IsTrue result ↔ (lower text.now ≡ word.now) }
 {
@@ -19,6 +20,31 @@ pub fn is_word(text: &[u8], word: &[u8]) -> bool
         }
     }
     true
+}
+
+/// Whether the bytes are the same. Inlined, so that a word that is known beforehand takes no loop.
+#[inline(always)]
+fn is_same(text: &[u8], word: &[u8]) -> bool
+    ensures { IsTrue result ↔ (text.now ≡ word.now) }
+{
+    if text.len() != word.len() {
+        return false;
+    }
+    for (byte, letter) in text.iter().zip(word) {
+        if *byte != *letter {
+            return false;
+        }
+    }
+    true
+}
+
+/// The same as `is_word` of a word that is known to be of small letters. Texts mostly write it so.
+#[inline(always)]
+pub fn is_small_word(text: &[u8], word: &[u8]) -> bool
+    requires { lower word.now ≡ word.now }
+    ensures { IsTrue result ↔ (lower text.now ≡ word.now) }
+{
+    is_same(text, word) || is_word(text, word)
 }
 
 /// The text with each capital letter as a small one. It fails only where memory runs out.

@@ -13,16 +13,16 @@ use Rattle.np_cert.specs.declared.certificate.Limit.{Limit}
 use Rattle.np_cert.specs.declared.certificate.Limit.TheVariants.{Number, Absent}
 use Rattle.np_cert.specs.declared.certificate.Entry.{Entry}
 use Rattle.np_cert.specs.Valid.{at_most}
-use Rattle.np_planner.specs.declared.counters.Counters.{Counters}
-use Rattle.np_planner.specs.Counters.{Values, run, is_goal}
+use Rattle.np_search.specs.declared.counters.Counters.{Counters}
+use Rattle.np_search.specs.Counters.{Values, run, is_goal}
 use Rattle.np_planner.specs.SamePlans.{Fits}
 use Rattle.np_planner.specs.FlatOf.{flat_state}
-use Rattle.np_planner.specs.Explored.{Expanded, IsReachedBy, AreExpanded}
+use Rattle.np_search.specs.Explored.{Expanded, IsReachedBy, AreExpanded}
 use Rattle.np_planner.specs.Evidence.{entry_of}
 use Rattle.np_planner.specs.Certified.{IsExpandedEntry, IsSpentOn}
-use Rattle.np_planner.specs.Found.{IsSpentWith}
-use Rattle.np_planner.proofs.SearchGrowth.{contains_placed, placed_contained}
-use Rattle.np_planner.proofs.SearchCover.{further_cover}
+use Rattle.np_search.specs.Found.{IsSpentWith}
+use Rattle.np_search.proofs.SearchGrowth.{contains_placed, placed_contained}
+use Rattle.np_search.proofs.SearchCover.{further_cover}
 use Rattle.np_planner.proofs.SamePlansRuns.{mapped_from}
 use Rattle.np_planner.proofs.SamePlans.{length-run}
 use Rattle.np_planner.proofs.EvidenceEntries.{IsAlike, fits, value_there}

@@ -8,12 +8,12 @@ use Rattle.np_cert.specs.declared.certificate.Limit.TheVariants.{Number, Absent}
 use Rattle.np_cert.specs.Layout.{certificate_text}
 use Rattle.np_cert.specs.Valid.{IsValid}
 use Rattle.np_cert.proofs.Printing.{certificate_text_spells}
-use Rattle.np_planner.specs.declared.counters.Counters.{Counters}
-use Rattle.np_planner.specs.declared.syntax.Domain.{Domain}
-use Rattle.np_planner.specs.declared.syntax.Problem.{Problem}
+use Rattle.np_search.specs.declared.counters.Counters.{Counters}
+use Rattle.np_syntax.specs.declared.syntax.Domain.{Domain}
+use Rattle.np_syntax.specs.declared.syntax.Problem.{Problem}
 use Rattle.np_planner.specs.CountersOf.{counters_of}
 use Rattle.np_planner.specs.FlatOf.{flat_of}
-use Rattle.np_planner.specs.Explored.{Expanded, AreExpanded}
+use Rattle.np_search.specs.Explored.{Expanded, AreExpanded}
 use Rattle.np_planner.specs.Evidence.{entry_of, certificate_of}
 use Rattle.np_planner.specs.Certified.{IsCertifiedBy}
 use Rattle.np_planner.specs.CertifiedLaws.{IsPair, CertifiedTo, CertifiedAll, SpentOnFlat}

@@ -4,10 +4,10 @@ use Rattle.std.specs.Prelude.{⊤}
 use Rattle.std.proofs.lemmas.Option.{same_Some}
 use Rattle.np_cert.specs.declared.certificate.Limit.{Limit}
 use Rattle.np_cert.specs.declared.certificate.Limit.TheVariants.{Number, Absent}
-use Rattle.np_planner.specs.declared.counters.Counters.{Counters}
-use Rattle.np_planner.specs.Counters.{Values, next, run, AreDistinct}
-use Rattle.np_planner.specs.Explored.{Expanded, IsAmong}
-use Rattle.np_planner.proofs.SearchGrowth.{placed_contained}
+use Rattle.np_search.specs.declared.counters.Counters.{Counters}
+use Rattle.np_search.specs.Counters.{Values, next, run, AreDistinct}
+use Rattle.np_search.specs.Explored.{Expanded, IsAmong}
+use Rattle.np_search.proofs.SearchGrowth.{placed_contained}
 use Rattle.np_planner.proofs.SamePlansRuns.{some_from}
 use Rattle.np_planner.proofs.EvidenceEntries.{value_there}
 use Rattle.np_planner.proofs.EvidenceValid.{IsNearEnd, IsClosed}

@@ -1,8 +1,8 @@
 -- From what the steps of a check come to, to what its answer says.
-use Rattle.std.proofs.Common.{◌≡◌, ℕ, ◌≤◌, inl, inr, Bool, true, false, true≢false, nat_le, List, Option, refl, sym, ◌∙◌, subst, arith}
+use Rattle.std.proofs.Common.{ℕ, ◌≤◌, inl, inr, true≢false, nat_le, List, sym, subst, arith}
 use Rattle.std.specs.Prelude.{IsTrue}
 use Rattle.std.proofs.lemmas.Bool.Decides.{nat_tests}
-use Rattle.np_io.specs.Files.{Files, IsHeld}
+use Rattle.np_io.specs.Files.{IsHeld}
 use Rattle.np_flat.specs.declared.parts.Parts.{Parts}
 use Rattle.np_flat.specs.Plans.{cost_sum}
 use Rattle.np_cert.specs.declared.certificate.Limit.{Limit}
@@ -16,8 +16,8 @@ use Rattle.np_check.proofs.ClaimBounds.{claim_bounds}
 use Rattle.np_planner.specs.declared.answer.File.TheVariants as file
 use Rattle.np_planner.specs.declared.answer.Answer.{Answer}
 use Rattle.np_planner.specs.declared.answer.Answer.TheVariants.{Usage, CannotRead, TooLong, NotBuilt, Optimal, Unsolvable, Spent, Yes, ProofFails, Repeats, Unjustified, ClaimAbove, CannotWrite, OutOfMemory}
-use Rattle.np_planner.specs.declared.syntax.Domain.{Domain}
-use Rattle.np_planner.specs.declared.syntax.Problem.{Problem}
+use Rattle.np_syntax.specs.declared.syntax.Domain.{Domain}
+use Rattle.np_syntax.specs.declared.syntax.Problem.{Problem}
 use Rattle.np_planner.specs.FirstForm.{IsFirstForm}
 use Rattle.np_planner.specs.TaskOf.{task_of}
 use Rattle.np_planner.specs.FlatOf.{flat_of}

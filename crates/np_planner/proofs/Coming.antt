@@ -21,7 +21,7 @@ use Rattle.np_planner.specs.Answers.{Shelf, most_bytes, HavePair, HaveNoPair, Wa
 use Rattle.np_planner.specs.Checked.{IsRightCheck, HoldsValid, WasYes, WasNo, HaveNoCertificate}
 use Rattle.np_planner.specs.Said.{IsSaid}
 use Rattle.np_planner.specs.Promises.{Call, Says, IsAnswer, IsAnswered, HadNoFault}
-use Rattle.np_planner.proofs.ReadingTexts.{one_domain, one_problem}
+use Rattle.np_syntax.proofs.ReadingTexts.{one_domain, one_problem}
 use Rattle.np_cert.proofs.ReadingTexts.{one_certificate}
 use Rattle.np_check.proofs.OneVerdict.{fault_is_no_yes}
 

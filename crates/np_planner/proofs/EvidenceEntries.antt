@@ -11,11 +11,11 @@ use Rattle.np_flat.specs.Flats.{AreBelow}
 use Rattle.np_cert.specs.declared.certificate.Limit.{Limit}
 use Rattle.np_cert.specs.declared.certificate.Entry.{Entry}
 use Rattle.np_cert.specs.Valid.{bound_at, IsRepeated}
-use Rattle.np_planner.specs.declared.counters.Counters.{Counters}
-use Rattle.np_planner.specs.Counters.{Values, next as next_values, is_goal as is_counters_goal, AreDistinct}
+use Rattle.np_search.specs.declared.counters.Counters.{Counters}
+use Rattle.np_search.specs.Counters.{Values, next as next_values, is_goal as is_counters_goal, AreDistinct}
 use Rattle.np_planner.specs.SamePlans.{Fits}
 use Rattle.np_planner.specs.FlatOf.{flat_state}
-use Rattle.np_planner.specs.Explored.{Expanded, IsReachedBy, AreExpanded}
+use Rattle.np_search.specs.Explored.{Expanded, IsReachedBy, AreExpanded}
 use Rattle.np_planner.specs.Evidence.{less, entry_of}
 use Rattle.np_planner.proofs.SamePlansPlaces.{All-get}
 use Rattle.np_planner.proofs.SamePlans.{length-run}

@@ -11,15 +11,15 @@ use Rattle.np_cert.specs.declared.certificate.Limit.{Limit}
 use Rattle.np_cert.specs.declared.certificate.Limit.TheVariants.{Number, Absent}
 use Rattle.np_cert.specs.Valid.{is_small, IsFitting}
 use Rattle.np_cert.specs.Text.{IsLimit, IsWrittenEntry}
-use Rattle.np_planner.specs.declared.syntax.Domain.{Domain}
-use Rattle.np_planner.specs.declared.syntax.Problem.{Problem}
-use Rattle.np_planner.specs.Syntax.{IsDomain, IsProblem}
+use Rattle.np_syntax.specs.declared.syntax.Domain.{Domain}
+use Rattle.np_syntax.specs.declared.syntax.Problem.{Problem}
+use Rattle.np_syntax.specs.Syntax.{IsDomain, IsProblem}
 use Rattle.np_planner.specs.FirstForm.{IsFirstForm}
-use Rattle.np_planner.specs.Counters.{Values, next, run}
+use Rattle.np_search.specs.Counters.{Values, next, run}
 use Rattle.np_planner.specs.CountersOf.{counters_of}
 use Rattle.np_planner.specs.SamePlans.{IsProper}
 use Rattle.np_planner.specs.FlatOf.{flat_of, flat_state}
-use Rattle.np_planner.specs.Explored.{Expanded, IsReachedBy}
+use Rattle.np_search.specs.Explored.{Expanded, IsReachedBy}
 use Rattle.np_planner.specs.Evidence.{entry_of, BoundIsCertified, NoneIsCertified, IsWritable}
 use Rattle.np_flat.proofs.Runs.{small_from_start}
 use Rattle.np_planner.proofs.FlatLimits.{is_flat}

@@ -12,10 +12,10 @@ use Rattle.np_flat.specs.Flats.{AreNumbers}
 use Rattle.np_cert.specs.declared.certificate.Limit.{Limit}
 use Rattle.np_cert.specs.declared.certificate.Limit.TheVariants.{Number, Absent}
 use Rattle.np_cert.specs.Valid.{at_most, after_cost, is_small, bound_at, IsFitting, IsJustified, IsValid}
-use Rattle.np_planner.specs.declared.counters.Counters.{Counters}
-use Rattle.np_planner.specs.Counters.{Values, next as next_values, is_goal}
+use Rattle.np_search.specs.declared.counters.Counters.{Counters}
+use Rattle.np_search.specs.Counters.{Values, next as next_values, is_goal}
 use Rattle.np_planner.specs.FlatOf.{flat_state}
-use Rattle.np_planner.specs.Explored.{Expanded, IsReachedBy, IsAmong, AreExpanded}
+use Rattle.np_search.specs.Explored.{Expanded, IsReachedBy, IsAmong, AreExpanded}
 use Rattle.np_planner.specs.Evidence.{less, entry_of, certificate_of}
 use Rattle.np_planner.proofs.EvidenceEntries.{IsAlike, fits, bound_among, entries_distinct}
 

@@ -15,14 +15,14 @@ use Rattle.np_model.specs.declared.task.Step.{Step}
 use Rattle.np_flat.specs.declared.parts.FlatStep.{FlatStep}
 use Rattle.np_flat.specs.Flats.{AreNumbers, IsSubgoal, IsStep, IsFlat}
 use Rattle.np_flat.proofs.Ascending.{ascending_cons, ascending_nil}
-use Rattle.np_planner.specs.declared.syntax.Test.{Test}
-use Rattle.np_planner.specs.declared.syntax.Effect.{Effect}
-use Rattle.np_planner.specs.declared.syntax.Action.{Action}
-use Rattle.np_planner.specs.declared.syntax.Domain.{Domain}
-use Rattle.np_planner.specs.declared.syntax.Problem.{Problem}
-use Rattle.np_planner.specs.Syntax.{IsTest, IsAction, IsDomain, IsProblem}
+use Rattle.np_syntax.specs.declared.syntax.Test.{Test}
+use Rattle.np_syntax.specs.declared.syntax.Effect.{Effect}
+use Rattle.np_syntax.specs.declared.syntax.Action.{Action}
+use Rattle.np_syntax.specs.declared.syntax.Domain.{Domain}
+use Rattle.np_syntax.specs.declared.syntax.Problem.{Problem}
+use Rattle.np_syntax.specs.Syntax.{IsTest, IsAction, IsDomain, IsProblem}
 use Rattle.np_planner.specs.FirstForm.{IsFirstForm, tested}
-use Rattle.np_planner.specs.Counters.{most}
+use Rattle.np_search.specs.Counters.{most}
 use Rattle.np_planner.specs.TaskOf.{term_of, step_of}
 use Rattle.np_planner.specs.CountersOf.{start_value}
 use Rattle.np_planner.specs.SamePlans.{IsProper}

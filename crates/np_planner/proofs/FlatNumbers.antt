@@ -9,9 +9,9 @@ use Rattle.std.proofs.lemmas.List.Elements.{All-nil, All-cons, All-head, All-tai
 use Rattle.np_flat.specs.States.{put_all}
 use Rattle.np_flat.specs.Flats.{IsAscending, AreNumbers, AreBelow, AreAmounts}
 use Rattle.np_flat.proofs.Ascending.{ascending_cons, ascending_nil, ascending_put_all, All-put_all}
-use Rattle.np_planner.specs.declared.syntax.Effect.{Effect}
-use Rattle.np_planner.specs.Syntax.{IsEffect}
-use Rattle.np_planner.specs.Counters.{most}
+use Rattle.np_syntax.specs.declared.syntax.Effect.{Effect}
+use Rattle.np_syntax.specs.Syntax.{IsEffect}
+use Rattle.np_search.specs.Counters.{most}
 use Rattle.np_planner.specs.CountersOf.{signed_amount}
 use Rattle.np_planner.specs.FlatOf.{net_on, changes_from}
 use Rattle.np_planner.proofs.SamePlansRange.{amount_below}

@@ -16,14 +16,14 @@ use Rattle.indexmap.proofs.SetLemmas.{set_all_push}
 use Rattle.np_flat.specs.declared.parts.FlatStep.{FlatStep}
 use Rattle.np_flat.specs.States.{put_in, put_all}
 use Rattle.np_flat.proofs.Ascending.{put_all-push}
-use Rattle.np_planner.specs.declared.syntax.Test.{Test}
-use Rattle.np_planner.specs.declared.syntax.Effect.{Effect}
-use Rattle.np_planner.specs.declared.syntax.Action.{Action}
-use Rattle.np_planner.specs.declared.syntax.Domain.{Domain}
-use Rattle.np_planner.specs.declared.syntax.Problem.{Problem}
-use Rattle.np_planner.specs.Syntax.{IsEffect, IsDomain}
+use Rattle.np_syntax.specs.declared.syntax.Test.{Test}
+use Rattle.np_syntax.specs.declared.syntax.Effect.{Effect}
+use Rattle.np_syntax.specs.declared.syntax.Action.{Action}
+use Rattle.np_syntax.specs.declared.syntax.Domain.{Domain}
+use Rattle.np_syntax.specs.declared.syntax.Problem.{Problem}
+use Rattle.np_syntax.specs.Syntax.{IsEffect, IsDomain}
 use Rattle.np_planner.specs.FirstForm.{IsFirstForm}
-use Rattle.np_planner.specs.Counters.{most}
+use Rattle.np_search.specs.Counters.{most}
 use Rattle.np_planner.specs.TaskOf.{place_of}
 use Rattle.np_planner.specs.CountersOf.{signed_amount}
 use Rattle.np_planner.specs.SamePlans.{IsProper}

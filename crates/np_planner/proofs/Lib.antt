@@ -18,10 +18,6 @@ pub mod Outcomes
 pub mod PairLemmas
 pub mod Promises
 pub mod Proper
-pub mod ReadingForms
-pub mod ReadingLaws
-pub mod ReadingTexts
-pub mod ReadingWords
 pub mod SameFlatChanges
 pub mod SameFlatLists
 pub mod SameFlatOrder
@@ -39,13 +35,4 @@ pub mod SamePlansStart
 pub mod SamePlansSteps
 pub mod SamePlansSums
 pub mod SamePlansTask
-pub mod SearchAnswers
-pub mod SearchBegin
-pub mod SearchCover
-pub mod SearchExpanded
-pub mod SearchGrowth
-pub mod SearchKeys
-pub mod SearchMoves
-pub mod SearchPaths
-pub mod SearchSteps
 pub mod Shelves

@@ -8,11 +8,11 @@ use Rattle.std.proofs.Math.ListN.{get_or-map}
 use Rattle.np_frac.specs.Fractions.{whole}
 use Rattle.np_model.specs.States.{State}
 use Rattle.np_model.specs.Plans.{run_from, cost_from, IsPlan, NoPlanBelow}
-use Rattle.np_planner.specs.declared.counters.Counters.{Counters}
-use Rattle.np_planner.specs.declared.syntax.Domain.{Domain}
-use Rattle.np_planner.specs.declared.syntax.Problem.{Problem}
+use Rattle.np_search.specs.declared.counters.Counters.{Counters}
+use Rattle.np_syntax.specs.declared.syntax.Domain.{Domain}
+use Rattle.np_syntax.specs.declared.syntax.Problem.{Problem}
 use Rattle.np_planner.specs.FirstForm.{IsFirstForm}
-use Rattle.np_planner.specs.Counters.{Values, moved, next, run, IsWithin as IsWithinMoves, IsSpent as IsSpentMoves, AreDistinct as AreDistinctValues}
+use Rattle.np_search.specs.Counters.{Values, moved, next, run, IsWithin as IsWithinMoves, IsSpent as IsSpentMoves, AreDistinct as AreDistinctValues}
 use Rattle.np_planner.specs.TaskOf.{task_of, step_of}
 use Rattle.np_planner.specs.CountersOf.{counters_of}
 use Rattle.np_planner.specs.StateOf.{state_of}
@@ -21,8 +21,8 @@ use Rattle.np_planner.specs.declared.solve.Pair.{Pair}
 use Rattle.np_planner.specs.declared.solve.Outcome.{Outcome}
 use Rattle.np_planner.specs.declared.solve.Ending.{Ending}
 use Rattle.np_planner.specs.declared.solve.Ending.TheVariants.{Plan, NoPlan, Spent}
-use Rattle.np_planner.specs.declared.search.End.{End}
-use Rattle.np_planner.specs.declared.search.End.TheVariants as end
+use Rattle.np_search.specs.declared.breadth_first.End.{End}
+use Rattle.np_search.specs.declared.breadth_first.End.TheVariants as end
 use Rattle.np_flat.specs.declared.parts.Parts.{Parts}
 use Rattle.np_cert.specs.declared.certificate.Limit.{Limit}
 use Rattle.np_cert.specs.declared.certificate.Limit.TheVariants.{Number}
@@ -30,9 +30,9 @@ use Rattle.np_cert.specs.declared.certificate.Why.TheVariants as why
 use Rattle.np_cert.specs.Text.{IsThin}
 use Rattle.np_cert.specs.Layout.{certificate_text}
 use Rattle.np_planner.specs.FlatOf.{flat_of}
-use Rattle.np_planner.specs.Explored.{Expanded}
-use Rattle.np_planner.specs.declared.search.Found.{Found}
-use Rattle.np_planner.specs.Found.{IsEnd, IsSpentWith, IsFound, expanded_of}
+use Rattle.np_search.specs.Explored.{Expanded}
+use Rattle.np_search.specs.declared.breadth_first.Found.{Found}
+use Rattle.np_search.specs.Found.{IsEnd, IsSpentWith, IsFound, expanded_of}
 use Rattle.np_cert.specs.declared.certificate.Certificate.{Certificate}
 use Rattle.np_planner.specs.Evidence.{entry_of, certificate_of}
 use Rattle.np_planner.specs.Certified.{IsCertified, IsCertifiedBy}
@@ -41,9 +41,9 @@ use Rattle.np_planner.specs.Answers.{most_bytes}
 use Rattle.np_planner.specs.Pairs.{IsPairOf}
 use Rattle.np_planner.specs.Outcomes.{claim_of, Says, Ends, IsEndingOf, IsOutcome, IsOutcomeOf}
 use Rattle.np_planner.proofs.Proper.{is_proper}
-use Rattle.np_planner.proofs.SearchExpanded.{spent_of}
+use Rattle.np_search.proofs.SearchExpanded.{spent_of}
 use Rattle.np_planner.proofs.CertifiedLaws.{certified_to, certified_all, spent_on_flat}
-use Rattle.np_planner.proofs.SearchCover.{further_cover}
+use Rattle.np_search.proofs.SearchCover.{further_cover}
 use Rattle.np_planner.proofs.SamePlansStart.{start_is, values_are}
 use Rattle.np_planner.proofs.SamePlansSteps.{goal_is}
 use Rattle.np_planner.proofs.SamePlansRuns.{run_is, cost_is, some_from, mapped_from}

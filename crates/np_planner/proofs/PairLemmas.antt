@@ -17,7 +17,7 @@ use Rattle.indexmap.specs.IndexSet.{insert_key, insert_all}
 use Rattle.np_planner.specs.PairNames.{each_once}
 use Rattle.np_planner.specs.TaskOf.{place_of, number_of}
 use Rattle.np_planner.specs.CountersOf.{start_value}
-use Rattle.np_planner.specs.declared.syntax.Value.{Value}
+use Rattle.np_syntax.specs.declared.syntax.Value.{Value}
 
 -- whether a name is among the names
 abbrev pub is_in : List (List ℕ) → List ℕ → Bool

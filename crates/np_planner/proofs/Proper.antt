@@ -17,16 +17,16 @@ use Rattle.np_lex.specs.Tokens.{Span, Next, taken, bad_at, ended, Tokens, tokens
 use Rattle.np_lex.specs.Blanks.{blank_length}
 use Rattle.np_lex.proofs.LongestLaw.{first_token-longest}
 use Rattle.np_model.specs.Names.{reserved_words, is_letter, is_name_byte, is_name}
-use Rattle.np_planner.specs.declared.syntax.Test.{Test}
-use Rattle.np_planner.specs.declared.syntax.Effect.{Effect}
-use Rattle.np_planner.specs.declared.syntax.Action.{Action}
-use Rattle.np_planner.specs.declared.syntax.Domain.{Domain}
-use Rattle.np_planner.specs.Syntax.{IsName, SpellsDomain, all, term, test, effect, action, domain, right}
-use Rattle.np_planner.specs.ReadingForm.{is_reserved}
+use Rattle.np_syntax.specs.declared.syntax.Test.{Test}
+use Rattle.np_syntax.specs.declared.syntax.Effect.{Effect}
+use Rattle.np_syntax.specs.declared.syntax.Action.{Action}
+use Rattle.np_syntax.specs.declared.syntax.Domain.{Domain}
+use Rattle.np_syntax.specs.Syntax.{IsName, SpellsDomain, all, term, test, effect, action, domain, right}
+use Rattle.np_syntax.specs.ReadingForm.{is_reserved}
 use Rattle.np_planner.specs.SamePlans.{IsProper}
 use Rattle.np_planner.specs.Answers.{most_bytes}
-use Rattle.np_planner.proofs.ReadingLaws.{both_true}
-use Rattle.np_planner.proofs.ReadingWords.{not_reserved}
+use Rattle.np_syntax.proofs.ReadingLaws.{both_true}
+use Rattle.np_syntax.proofs.ReadingWords.{not_reserved}
 
 -- ---- names
 

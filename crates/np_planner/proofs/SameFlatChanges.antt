@@ -9,8 +9,8 @@ use Rattle.std.proofs.lemmas.Option.{same_Some}
 use Rattle.std.proofs.lemmas.List.{length-set, length_push, get_or-set_same, get_or-set_other, get_or_at, set_at}
 use Rattle.std.proofs.lemmas.Slice.Eq.{bytes_eq-Decides}
 use Rattle.np_flat.specs.States.{value_at, all_changed as all_values_changed}
-use Rattle.np_planner.specs.declared.syntax.Effect.{Effect}
-use Rattle.np_planner.specs.Counters.{Values, changed, all_changed}
+use Rattle.np_syntax.specs.declared.syntax.Effect.{Effect}
+use Rattle.np_search.specs.Counters.{Values, changed, all_changed}
 use Rattle.np_planner.specs.TaskOf.{place_of}
 use Rattle.np_planner.specs.CountersOf.{signed_amount, counter_change}
 use Rattle.np_planner.specs.FlatOf.{net_on, changes_from}

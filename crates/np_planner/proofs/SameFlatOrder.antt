@@ -6,10 +6,10 @@ use Rattle.std.proofs.lemmas.List.{get_or-map, ext_get_or}
 use Rattle.std.proofs.lemmas.List.Elements.{All-contains, Contains-get_or}
 use Rattle.np_flat.specs.declared.state.FlatState.{FlatState}
 use Rattle.np_flat.specs.States.{value_at}
-use Rattle.np_planner.specs.declared.syntax.Domain.{Domain}
-use Rattle.np_planner.specs.declared.syntax.Problem.{Problem}
+use Rattle.np_syntax.specs.declared.syntax.Domain.{Domain}
+use Rattle.np_syntax.specs.declared.syntax.Problem.{Problem}
 use Rattle.np_planner.specs.FirstForm.{IsFirstForm, tested}
-use Rattle.np_planner.specs.Counters.{Values}
+use Rattle.np_search.specs.Counters.{Values}
 use Rattle.np_planner.specs.TaskOf.{place_of, term_of}
 use Rattle.np_planner.specs.CountersOf.{start_value, counters_of}
 use Rattle.np_planner.specs.FlatOf.{value_order, flat_of, flat_state}

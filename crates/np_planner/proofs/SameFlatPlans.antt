@@ -11,10 +11,10 @@ use Rattle.np_model.specs.Plans.{start_of, cost_from, IsPlan, IsUnsolvable, NoPl
 use Rattle.np_flat.specs.declared.state.FlatState.{FlatState}
 use Rattle.np_flat.specs.States.{is_goal}
 use Rattle.np_flat.specs.Plans.{run_from, cost_sum, Leads, IsPlan as IsFlatPlan, Reaches as ReachesFlat}
-use Rattle.np_planner.specs.declared.syntax.Domain.{Domain}
-use Rattle.np_planner.specs.declared.syntax.Problem.{Problem}
+use Rattle.np_syntax.specs.declared.syntax.Domain.{Domain}
+use Rattle.np_syntax.specs.declared.syntax.Problem.{Problem}
 use Rattle.np_planner.specs.FirstForm.{IsFirstForm}
-use Rattle.np_planner.specs.Counters.{Values, run, Leads as LeadsCounters}
+use Rattle.np_search.specs.Counters.{Values, run, Leads as LeadsCounters}
 use Rattle.np_planner.specs.TaskOf.{task_of, step_of}
 use Rattle.np_planner.specs.CountersOf.{counters_of}
 use Rattle.np_planner.specs.StateOf.{state_of}

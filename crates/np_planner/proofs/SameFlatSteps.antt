@@ -6,11 +6,11 @@ use Rattle.np_flat.specs.declared.state.FlatState.{FlatState}
 use Rattle.np_flat.specs.declared.parts.FlatStep.{FlatStep}
 use Rattle.np_flat.specs.States.{meets as meets_step, state_after, next}
 use Rattle.np_flat.specs.Plans.{cost_of, run_from, cost_sum, step_at}
-use Rattle.np_planner.specs.declared.syntax.Action.{Action}
-use Rattle.np_planner.specs.declared.syntax.Domain.{Domain}
-use Rattle.np_planner.specs.declared.syntax.Problem.{Problem}
+use Rattle.np_syntax.specs.declared.syntax.Action.{Action}
+use Rattle.np_syntax.specs.declared.syntax.Domain.{Domain}
+use Rattle.np_syntax.specs.declared.syntax.Problem.{Problem}
 use Rattle.np_planner.specs.FirstForm.{IsFirstForm}
-use Rattle.np_planner.specs.Counters.{Values, all_changed, moved, next as next_values, run}
+use Rattle.np_search.specs.Counters.{Values, all_changed, moved, next as next_values, run}
 use Rattle.np_planner.specs.TaskOf.{step_of}
 use Rattle.np_planner.specs.CountersOf.{counter_change, move_of, counters_of}
 use Rattle.np_planner.specs.FlatOf.{value_order, flat_step, steps_from, flat_of, flat_state}

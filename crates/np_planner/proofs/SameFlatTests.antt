@@ -12,12 +12,12 @@ use Rattle.std.proofs.lemmas.Option.{slice_get-map}
 use Rattle.std.proofs.lemmas.List.Elements.{All-head, All-tail, All-nil, All-cons, All-contains}
 use Rattle.np_flat.specs.declared.state.FlatState.{FlatState}
 use Rattle.np_flat.specs.States.{value_at, subgoal_holds, holds, is_goal}
-use Rattle.np_planner.specs.declared.syntax.Test.{Test}
-use Rattle.np_planner.specs.declared.syntax.Action.{Action}
-use Rattle.np_planner.specs.declared.syntax.Domain.{Domain}
-use Rattle.np_planner.specs.declared.syntax.Problem.{Problem}
+use Rattle.np_syntax.specs.declared.syntax.Test.{Test}
+use Rattle.np_syntax.specs.declared.syntax.Action.{Action}
+use Rattle.np_syntax.specs.declared.syntax.Domain.{Domain}
+use Rattle.np_syntax.specs.declared.syntax.Problem.{Problem}
 use Rattle.np_planner.specs.FirstForm.{IsFirstForm}
-use Rattle.np_planner.specs.Counters.{Values, meets, is_goal as is_counters_goal}
+use Rattle.np_search.specs.Counters.{Values, meets, is_goal as is_counters_goal}
 use Rattle.np_planner.specs.TaskOf.{number_of}
 use Rattle.np_planner.specs.CountersOf.{counter_need, counters_of}
 use Rattle.np_planner.specs.FlatOf.{Reading, value_order, reading_of, same_reading, is_read, first_readings, reading_number, all_tests, readings_of, subgoal_of, subgoals_of, flat_of, flat_state}

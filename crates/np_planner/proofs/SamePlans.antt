@@ -8,11 +8,11 @@ use Rattle.np_frac.specs.Order.{whole_cmp}
 use Rattle.np_model.specs.declared.task.Step.{Step}
 use Rattle.np_model.specs.States.{State}
 use Rattle.np_model.specs.Plans.{start_of, is_goal, run_from, cost_from, IsPlan, IsAtMost, IsUnsolvable, NoPlanBelow}
-use Rattle.np_planner.specs.declared.counters.Counters.{Counters}
-use Rattle.np_planner.specs.declared.syntax.Domain.{Domain}
-use Rattle.np_planner.specs.declared.syntax.Problem.{Problem}
+use Rattle.np_search.specs.declared.counters.Counters.{Counters}
+use Rattle.np_syntax.specs.declared.syntax.Domain.{Domain}
+use Rattle.np_syntax.specs.declared.syntax.Problem.{Problem}
 use Rattle.np_planner.specs.FirstForm.{IsFirstForm}
-use Rattle.np_planner.specs.Counters.{Values, run, Leads, IsShortest, IsBlocked, NoneShorter}
+use Rattle.np_search.specs.Counters.{Values, run, Leads, IsShortest, IsBlocked, NoneShorter}
 use Rattle.np_planner.specs.TaskOf.{task_of, step_of}
 use Rattle.np_planner.specs.CountersOf.{counters_of}
 use Rattle.np_planner.specs.StateOf.{state_of}

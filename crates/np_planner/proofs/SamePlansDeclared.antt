@@ -2,11 +2,11 @@
 use Rattle.std.proofs.Common.{◌≡◌, ℕ, zero, suc, ◌+◌, ◌<◌, List, [], ◌∷◌, ◌++◌, length, map, flat_map, get_or, slice_get, All, Contains, Some, ap, ◌∙◌, subst, arith, length-append}
 use Rattle.std.proofs.lemmas.Option.{same_Some, none-some}
 use Rattle.std.proofs.lemmas.List.{length-map, get_or-map, get_or_append_left, get_or-append-add}
-use Rattle.np_planner.specs.declared.syntax.Action.{Action}
-use Rattle.np_planner.specs.declared.syntax.Domain.{Domain}
-use Rattle.np_planner.specs.declared.syntax.Problem.{Problem}
+use Rattle.np_syntax.specs.declared.syntax.Action.{Action}
+use Rattle.np_syntax.specs.declared.syntax.Domain.{Domain}
+use Rattle.np_syntax.specs.declared.syntax.Problem.{Problem}
 use Rattle.np_planner.specs.FirstForm.{IsFirstForm}
-use Rattle.np_planner.specs.Counters.{Values}
+use Rattle.np_search.specs.Counters.{Values}
 use Rattle.np_planner.specs.TaskOf.{place_of}
 use Rattle.np_planner.specs.CountersOf.{start_value, counters_of}
 use Rattle.np_planner.proofs.SamePlansPlaces.{place_below}

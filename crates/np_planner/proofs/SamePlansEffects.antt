@@ -13,10 +13,10 @@ use Rattle.np_model.specs.declared.task.Atom.{Atom}
 use Rattle.np_model.specs.States.{State}
 use Rattle.np_model.specs.Values.{of_both, negated}
 use Rattle.np_model.specs.Steps.{adds, deletes, changes, amount_of, is_possible, result_of}
-use Rattle.np_planner.specs.declared.counters.Change.{Change}
-use Rattle.np_planner.specs.declared.syntax.Effect.{Effect}
-use Rattle.np_planner.specs.declared.syntax.Action.{Action}
-use Rattle.np_planner.specs.Counters.{Values, changed, all_changed}
+use Rattle.np_search.specs.declared.counters.Change.{Change}
+use Rattle.np_syntax.specs.declared.syntax.Effect.{Effect}
+use Rattle.np_syntax.specs.declared.syntax.Action.{Action}
+use Rattle.np_search.specs.Counters.{Values, changed, all_changed}
 use Rattle.np_planner.specs.TaskOf.{place_of, number_of, change_of, action_of}
 use Rattle.np_planner.specs.CountersOf.{counter_change, signed_amount}
 use Rattle.np_planner.specs.StateOf.{state_of}

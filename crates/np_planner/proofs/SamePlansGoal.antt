@@ -10,8 +10,8 @@ use Rattle.np_frac.specs.Order.{whole_cmp}
 use Rattle.np_model.specs.declared.task.Op.TheVariants.{AtLeast}
 use Rattle.np_model.specs.Values.{of_both}
 use Rattle.np_model.specs.Conditions.{holds, all_hold, is_yes, compares}
-use Rattle.np_planner.specs.declared.syntax.Test.{Test}
-use Rattle.np_planner.specs.Counters.{Values, meets}
+use Rattle.np_syntax.specs.declared.syntax.Test.{Test}
+use Rattle.np_search.specs.Counters.{Values, meets}
 use Rattle.np_planner.specs.TaskOf.{place_of, number_of, need_of}
 use Rattle.np_planner.specs.CountersOf.{counter_need}
 use Rattle.np_planner.specs.StateOf.{state_of}

@@ -6,15 +6,15 @@ use Rattle.std.specs.Str.{bytes_eq}
 use Rattle.std.proofs.lemmas.Bool.{cond_both}
 use Rattle.std.proofs.lemmas.Option.{slice_get-get_or}
 use Rattle.std.proofs.lemmas.List.Elements.{All-head, All-tail, All-map}
-use Rattle.np_planner.specs.declared.syntax.Whole.{Whole}
-use Rattle.np_planner.specs.declared.syntax.Test.{Test}
-use Rattle.np_planner.specs.declared.syntax.Effect.{Effect}
-use Rattle.np_planner.specs.declared.syntax.Domain.{Domain}
-use Rattle.np_planner.specs.declared.syntax.Value.{Value}
-use Rattle.np_planner.specs.declared.syntax.Problem.{Problem}
-use Rattle.np_planner.specs.Syntax.{IsWhole, IsTest, IsEffect, IsDomain, IsValue, IsProblem}
+use Rattle.np_syntax.specs.declared.syntax.Whole.{Whole}
+use Rattle.np_syntax.specs.declared.syntax.Test.{Test}
+use Rattle.np_syntax.specs.declared.syntax.Effect.{Effect}
+use Rattle.np_syntax.specs.declared.syntax.Domain.{Domain}
+use Rattle.np_syntax.specs.declared.syntax.Value.{Value}
+use Rattle.np_syntax.specs.declared.syntax.Problem.{Problem}
+use Rattle.np_syntax.specs.Syntax.{IsWhole, IsTest, IsEffect, IsDomain, IsValue, IsProblem}
 use Rattle.np_planner.specs.FirstForm.{IsFirstForm}
-use Rattle.np_planner.specs.Counters.{Values, most, IsNeedOf, IsChangeOf, IsMoveOf, IsInRange}
+use Rattle.np_search.specs.Counters.{Values, most, IsNeedOf, IsChangeOf, IsMoveOf, IsInRange}
 use Rattle.np_planner.specs.TaskOf.{size_of, number_of}
 use Rattle.np_planner.specs.CountersOf.{start_value, signed_amount, counter_need, counter_change, move_of, counters_of}
 use Rattle.np_planner.proofs.SamePlansGoal.{AreCounted}

@@ -8,11 +8,11 @@ use Rattle.np_model.specs.States.{State}
 use Rattle.np_model.specs.Values.{of_both}
 use Rattle.np_model.specs.Steps.{next}
 use Rattle.np_model.specs.Plans.{run_from, cost_from}
-use Rattle.np_planner.specs.declared.counters.Counters.{Counters}
-use Rattle.np_planner.specs.declared.syntax.Domain.{Domain}
-use Rattle.np_planner.specs.declared.syntax.Problem.{Problem}
+use Rattle.np_search.specs.declared.counters.Counters.{Counters}
+use Rattle.np_syntax.specs.declared.syntax.Domain.{Domain}
+use Rattle.np_syntax.specs.declared.syntax.Problem.{Problem}
 use Rattle.np_planner.specs.FirstForm.{IsFirstForm}
-use Rattle.np_planner.specs.Counters.{Values, next as next_values, run}
+use Rattle.np_search.specs.Counters.{Values, next as next_values, run}
 use Rattle.np_planner.specs.TaskOf.{task_of, step_of}
 use Rattle.np_planner.specs.CountersOf.{counters_of}
 use Rattle.np_planner.specs.StateOf.{state_of}

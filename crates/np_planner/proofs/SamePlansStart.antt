@@ -12,11 +12,11 @@ use Rattle.np_model.specs.declared.task.Atom.{Atom}
 use Rattle.np_model.specs.declared.task.Term.{Term}
 use Rattle.np_model.specs.States.{State, value_among}
 use Rattle.np_model.specs.Plans.{start_of}
-use Rattle.np_planner.specs.declared.syntax.Domain.{Domain}
-use Rattle.np_planner.specs.declared.syntax.Value.{Value}
-use Rattle.np_planner.specs.declared.syntax.Problem.{Problem}
+use Rattle.np_syntax.specs.declared.syntax.Domain.{Domain}
+use Rattle.np_syntax.specs.declared.syntax.Value.{Value}
+use Rattle.np_syntax.specs.declared.syntax.Problem.{Problem}
 use Rattle.np_planner.specs.FirstForm.{IsFirstForm}
-use Rattle.np_planner.specs.Counters.{Values}
+use Rattle.np_search.specs.Counters.{Values}
 use Rattle.np_planner.specs.TaskOf.{place_of, number_of, term_of, task_of}
 use Rattle.np_planner.specs.CountersOf.{start_value, counters_of}
 use Rattle.np_planner.specs.StateOf.{counter_value, state_of}

@@ -8,13 +8,13 @@ use Rattle.np_model.specs.declared.task.Step.{Step}
 use Rattle.np_model.specs.States.{State}
 use Rattle.np_model.specs.Steps.{takes, is_applicable, result_of, next}
 use Rattle.np_model.specs.Plans.{is_goal}
-use Rattle.np_planner.specs.declared.counters.Move.{Move}
-use Rattle.np_planner.specs.declared.counters.Counters.{Counters}
-use Rattle.np_planner.specs.declared.syntax.Action.{Action}
-use Rattle.np_planner.specs.declared.syntax.Domain.{Domain}
-use Rattle.np_planner.specs.declared.syntax.Problem.{Problem}
+use Rattle.np_search.specs.declared.counters.Move.{Move}
+use Rattle.np_search.specs.declared.counters.Counters.{Counters}
+use Rattle.np_syntax.specs.declared.syntax.Action.{Action}
+use Rattle.np_syntax.specs.declared.syntax.Domain.{Domain}
+use Rattle.np_syntax.specs.declared.syntax.Problem.{Problem}
 use Rattle.np_planner.specs.FirstForm.{IsFirstForm}
-use Rattle.np_planner.specs.Counters.{Values, meets, all_changed, moved, next as next_values, is_goal as is_counters_goal}
+use Rattle.np_search.specs.Counters.{Values, meets, all_changed, moved, next as next_values, is_goal as is_counters_goal}
 use Rattle.np_planner.specs.TaskOf.{action_of, task_of, step_of}
 use Rattle.np_planner.specs.CountersOf.{move_of, counters_of}
 use Rattle.np_planner.specs.StateOf.{state_of}

@@ -21,12 +21,12 @@ use Rattle.np_model.specs.declared.task.Term.{Term}
 use Rattle.np_model.specs.Names.{is_name}
 use Rattle.np_model.specs.Types.{all_fit, is_under}
 use Rattle.np_model.specs.Tasks.{AreDistinct, AreNames, is_call, is_condition, is_fixed, is_effect, names_function, IsSignature, IsAction, AreShort, AreNamed, AreTypeNames, FixedIsStatic, is_ground_atom, is_ground_term, IsTask}
-use Rattle.np_planner.specs.declared.syntax.Test.{Test}
-use Rattle.np_planner.specs.declared.syntax.Effect.{Effect}
-use Rattle.np_planner.specs.declared.syntax.Action.{Action}
-use Rattle.np_planner.specs.declared.syntax.Domain.{Domain}
-use Rattle.np_planner.specs.declared.syntax.Value.{Value}
-use Rattle.np_planner.specs.declared.syntax.Problem.{Problem}
+use Rattle.np_syntax.specs.declared.syntax.Test.{Test}
+use Rattle.np_syntax.specs.declared.syntax.Effect.{Effect}
+use Rattle.np_syntax.specs.declared.syntax.Action.{Action}
+use Rattle.np_syntax.specs.declared.syntax.Domain.{Domain}
+use Rattle.np_syntax.specs.declared.syntax.Value.{Value}
+use Rattle.np_syntax.specs.declared.syntax.Problem.{Problem}
 use Rattle.np_planner.specs.FirstForm.{IsFirstForm, action_names, affected, valued}
 use Rattle.np_planner.specs.TaskOf.{place_of, number_of, term_of, need_of, change_of, action_of, signature_of, task_of}
 use Rattle.np_planner.specs.SamePlans.{IsProper}

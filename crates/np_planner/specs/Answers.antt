@@ -14,8 +14,8 @@ use Rattle.np_planner.specs.declared.answer.File.{File}
 use Rattle.np_planner.specs.declared.answer.File.TheVariants.{Domain, Problem, Certificate, Plan}
 use Rattle.np_planner.specs.declared.answer.Answer.{Answer}
 use Rattle.np_planner.specs.declared.answer.Answer.TheVariants.{CannotRead, TooLong, NotBuilt, Optimal, Unsolvable, Spent, CannotWrite, OutOfMemory}
-use Rattle.np_planner.specs.declared.syntax.Domain.{Domain as DomainText}
-use Rattle.np_planner.specs.declared.syntax.Problem.{Problem as ProblemText}
+use Rattle.np_syntax.specs.declared.syntax.Domain.{Domain as DomainText}
+use Rattle.np_syntax.specs.declared.syntax.Problem.{Problem as ProblemText}
 use Rattle.np_planner.specs.FirstForm.{SpellsPair}
 use Rattle.np_planner.specs.TaskOf.{task_of, step_of}
 use Rattle.np_planner.specs.PlanText.{plan_text}

@@ -2,17 +2,17 @@
 use Rattle.std.specs.Prelude.{ℕ, ◌^◌, ◌≤◌, List, length}
 use Rattle.np_cert.specs.declared.certificate.Limit.TheVariants.{Number, Absent}
 use Rattle.np_cert.specs.Layout.{certificate_text}
-use Rattle.np_planner.specs.declared.syntax.Domain.{Domain}
-use Rattle.np_planner.specs.declared.syntax.Problem.{Problem}
-use Rattle.np_planner.specs.Syntax.{IsDomain, IsProblem}
+use Rattle.np_syntax.specs.declared.syntax.Domain.{Domain}
+use Rattle.np_syntax.specs.declared.syntax.Problem.{Problem}
+use Rattle.np_syntax.specs.Syntax.{IsDomain, IsProblem}
 use Rattle.np_planner.specs.FirstForm.{IsFirstForm}
 use Rattle.np_planner.specs.CountersOf.{counters_of}
 use Rattle.np_planner.specs.SamePlans.{IsProper}
 use Rattle.np_planner.specs.FlatOf.{flat_of}
-use Rattle.np_planner.specs.Explored.{Expanded, AreExpandedTo, AreAllExpanded}
+use Rattle.np_search.specs.Explored.{Expanded, AreExpandedTo, AreAllExpanded}
 use Rattle.np_planner.specs.Evidence.{certificate_of}
 use Rattle.np_planner.specs.Certified.{IsCertifiedBy, IsSpentOn}
-use Rattle.np_planner.specs.Found.{IsSpentWith}
+use Rattle.np_search.specs.Found.{IsSpentWith}
 
 -- the pair is written and of the first form
 pub record IsPair (d : Domain) (p : Problem) : Type 0 where

@@ -15,8 +15,8 @@ use Rattle.np_check.specs.Verdicts.{IsVerdict}
 use Rattle.np_planner.specs.declared.answer.File.TheVariants as file
 use Rattle.np_planner.specs.declared.answer.Answer.{Answer}
 use Rattle.np_planner.specs.declared.answer.Answer.TheVariants.{CannotRead, TooLong, NotBuilt, Yes, ProofFails, Repeats, Unjustified, ClaimAbove, OutOfMemory}
-use Rattle.np_planner.specs.declared.syntax.Domain.{Domain as DomainText}
-use Rattle.np_planner.specs.declared.syntax.Problem.{Problem as ProblemText}
+use Rattle.np_syntax.specs.declared.syntax.Domain.{Domain as DomainText}
+use Rattle.np_syntax.specs.declared.syntax.Problem.{Problem as ProblemText}
 use Rattle.np_planner.specs.FirstForm.{SpellsPair}
 use Rattle.np_planner.specs.Words.{Check}
 use Rattle.np_planner.specs.TaskOf.{task_of}

@@ -12,8 +12,8 @@ use Rattle.np_check.specs.Verdicts.{IsVerdict}
 use Rattle.np_planner.specs.declared.answer.File.TheVariants.{Certificate as CertificateFile}
 use Rattle.np_planner.specs.declared.answer.Answer.{Answer}
 use Rattle.np_planner.specs.declared.answer.Answer.TheVariants.{CannotRead, NotBuilt, Yes, ProofFails, Repeats, Unjustified, ClaimAbove, OutOfMemory}
-use Rattle.np_planner.specs.declared.syntax.Domain.{Domain}
-use Rattle.np_planner.specs.declared.syntax.Problem.{Problem}
+use Rattle.np_syntax.specs.declared.syntax.Domain.{Domain}
+use Rattle.np_syntax.specs.declared.syntax.Problem.{Problem}
 use Rattle.np_planner.specs.FirstForm.{SpellsPair}
 use Rattle.np_planner.specs.FlatOf.{flat_of}
 use Rattle.np_planner.specs.Answers.{Shelf, ReadFailed, IsUntouched}

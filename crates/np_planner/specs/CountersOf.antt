@@ -1,16 +1,16 @@
 -- The counters of a pair of the first form: counter n is the n-th function, move n the n-th action.
 use Rattle.std.specs.Prelude.{ℕ, ℤ, pos, neg_ℤ, List, [], ◌∷◌, map, if◌then◌else◌}
 use Rattle.std.specs.Str.{bytes_eq}
-use Rattle.np_planner.specs.declared.counters.Need.{Need}
-use Rattle.np_planner.specs.declared.counters.Change.{Change}
-use Rattle.np_planner.specs.declared.counters.Move.{Move}
-use Rattle.np_planner.specs.declared.counters.Counters.{Counters}
-use Rattle.np_planner.specs.declared.syntax.Test.{Test}
-use Rattle.np_planner.specs.declared.syntax.Effect.{Effect}
-use Rattle.np_planner.specs.declared.syntax.Action.{Action}
-use Rattle.np_planner.specs.declared.syntax.Domain.{Domain}
-use Rattle.np_planner.specs.declared.syntax.Value.{Value}
-use Rattle.np_planner.specs.declared.syntax.Problem.{Problem}
+use Rattle.np_search.specs.declared.counters.Need.{Need}
+use Rattle.np_search.specs.declared.counters.Change.{Change}
+use Rattle.np_search.specs.declared.counters.Move.{Move}
+use Rattle.np_search.specs.declared.counters.Counters.{Counters}
+use Rattle.np_syntax.specs.declared.syntax.Test.{Test}
+use Rattle.np_syntax.specs.declared.syntax.Effect.{Effect}
+use Rattle.np_syntax.specs.declared.syntax.Action.{Action}
+use Rattle.np_syntax.specs.declared.syntax.Domain.{Domain}
+use Rattle.np_syntax.specs.declared.syntax.Value.{Value}
+use Rattle.np_syntax.specs.declared.syntax.Problem.{Problem}
 use Rattle.np_planner.specs.TaskOf.{number_of, place_of}
 
 -- the value of a function at the start

@@ -8,14 +8,14 @@ use Rattle.np_cert.specs.declared.certificate.Entry.{Entry}
 use Rattle.np_cert.specs.declared.certificate.Certificate.{Certificate}
 use Rattle.np_cert.specs.Valid.{IsValid}
 use Rattle.np_cert.specs.Text.{IsWritten}
-use Rattle.np_planner.specs.declared.syntax.Domain.{Domain}
-use Rattle.np_planner.specs.declared.syntax.Problem.{Problem}
-use Rattle.np_planner.specs.Syntax.{IsDomain, IsProblem}
+use Rattle.np_syntax.specs.declared.syntax.Domain.{Domain}
+use Rattle.np_syntax.specs.declared.syntax.Problem.{Problem}
+use Rattle.np_syntax.specs.Syntax.{IsDomain, IsProblem}
 use Rattle.np_planner.specs.FirstForm.{IsFirstForm}
 use Rattle.np_planner.specs.CountersOf.{counters_of}
 use Rattle.np_planner.specs.SamePlans.{IsProper}
 use Rattle.np_planner.specs.FlatOf.{flat_of, flat_state}
-use Rattle.np_planner.specs.Explored.{Expanded, AreExpandedTo, AreAllExpanded}
+use Rattle.np_search.specs.Explored.{Expanded, AreExpandedTo, AreAllExpanded}
 
 -- what is left of a claim after so many moves; no plan stays no plan
 abbrev pub less : Limit → ℕ → Limit

@@ -10,16 +10,16 @@ use Rattle.np_flat.specs.declared.parts.Subgoal.TheVariants as subgoal
 use Rattle.np_flat.specs.declared.parts.FlatStep.{FlatStep}
 use Rattle.np_flat.specs.declared.parts.Parts.{Parts}
 use Rattle.np_flat.specs.States.{put_all, value_at}
-use Rattle.np_planner.specs.declared.syntax.Test.{Test}
-use Rattle.np_planner.specs.declared.syntax.Effect.{Effect}
-use Rattle.np_planner.specs.declared.syntax.Action.{Action}
-use Rattle.np_planner.specs.declared.syntax.Domain.{Domain}
-use Rattle.np_planner.specs.declared.syntax.Problem.{Problem}
+use Rattle.np_syntax.specs.declared.syntax.Test.{Test}
+use Rattle.np_syntax.specs.declared.syntax.Effect.{Effect}
+use Rattle.np_syntax.specs.declared.syntax.Action.{Action}
+use Rattle.np_syntax.specs.declared.syntax.Domain.{Domain}
+use Rattle.np_syntax.specs.declared.syntax.Problem.{Problem}
 use Rattle.np_planner.specs.FirstForm.{tested}
 use Rattle.np_planner.specs.PairNames.{each_once}
 use Rattle.np_planner.specs.TaskOf.{number_of, place_of, term_of, step_of}
 use Rattle.np_planner.specs.CountersOf.{start_value, signed_amount}
-use Rattle.np_planner.specs.Counters.{Values}
+use Rattle.np_search.specs.Counters.{Values}
 
 -- the functions by first reading: value n is the n-th one's
 abbrev pub value_order : Domain → Problem → List (List ℕ)

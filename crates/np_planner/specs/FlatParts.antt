@@ -3,9 +3,9 @@ use Rattle.std.specs.Prelude.{ℕ, suc, ◌^◌, ◌<◌, ℤ, pos, List, [], �
 use Rattle.std.specs.Ordering.{int_eq}
 use Rattle.np_flat.specs.declared.parts.FlatStep.{FlatStep}
 use Rattle.np_flat.specs.States.{put_all}
-use Rattle.np_planner.specs.declared.syntax.Test.{Test}
-use Rattle.np_planner.specs.declared.syntax.Action.{Action}
-use Rattle.np_planner.specs.Syntax.{IsAction}
+use Rattle.np_syntax.specs.declared.syntax.Test.{Test}
+use Rattle.np_syntax.specs.declared.syntax.Action.{Action}
+use Rattle.np_syntax.specs.Syntax.{IsAction}
 use Rattle.np_planner.specs.TaskOf.{step_of}
 use Rattle.np_planner.specs.FlatOf.{Reading, reading_of, reading_number, changes_from}
 

@@ -9,11 +9,11 @@ use Rattle.np_cert.specs.Layout.{certificate_text}
 use Rattle.np_planner.specs.declared.solve.Ending.{Ending}
 use Rattle.np_planner.specs.declared.solve.Ending.TheVariants.{Plan, NoPlan, Spent}
 use Rattle.np_planner.specs.declared.solve.Outcome.{Outcome}
-use Rattle.np_planner.specs.declared.search.End.{End}
-use Rattle.np_planner.specs.declared.search.End.TheVariants as end
-use Rattle.np_planner.specs.declared.syntax.Domain.{Domain}
-use Rattle.np_planner.specs.declared.syntax.Problem.{Problem}
-use Rattle.np_planner.specs.declared.counters.Counters.{Counters}
+use Rattle.np_search.specs.declared.breadth_first.End.{End}
+use Rattle.np_search.specs.declared.breadth_first.End.TheVariants as end
+use Rattle.np_syntax.specs.declared.syntax.Domain.{Domain}
+use Rattle.np_syntax.specs.declared.syntax.Problem.{Problem}
+use Rattle.np_search.specs.declared.counters.Counters.{Counters}
 use Rattle.np_planner.specs.declared.answer.File.TheVariants.{Certificate as CertificateFile, Plan as PlanFile}
 use Rattle.np_planner.specs.declared.answer.Answer.{Answer}
 use Rattle.np_planner.specs.declared.answer.Answer.TheVariants.{Optimal, Unsolvable, Spent as SpentAnswer, CannotWrite, OutOfMemory}
@@ -22,11 +22,11 @@ use Rattle.np_planner.specs.FirstForm.{SpellsPair}
 use Rattle.np_planner.specs.TaskOf.{task_of}
 use Rattle.np_planner.specs.FlatOf.{flat_of}
 use Rattle.np_planner.specs.PlanText.{plan_text}
-use Rattle.np_planner.specs.Counters.{IsShortest, IsBlocked}
-use Rattle.np_planner.specs.Explored.{Expanded, AreExpandedTo, AreAllExpanded}
+use Rattle.np_search.specs.Counters.{IsShortest, IsBlocked}
+use Rattle.np_search.specs.Explored.{Expanded, AreExpandedTo, AreAllExpanded}
 use Rattle.np_planner.specs.Evidence.{certificate_of}
 use Rattle.np_planner.specs.Certified.{IsCertified, IsSpentOn}
-use Rattle.np_planner.specs.Found.{IsSpentWith}
+use Rattle.np_search.specs.Found.{IsSpentWith}
 use Rattle.np_planner.specs.Answers.{Shelf, IsCheapest, IsSpent, IsFaultless, IsUntouched, WriteFailed}
 
 -- what the certificate claims after such an ending

@@ -1,7 +1,7 @@
 -- The text of a plan.
 use Rattle.std.specs.Prelude.{ℕ, List, [], ◌++◌, codes, slice_index_or}
 use Rattle.std.specs.List.{flat_map}
-use Rattle.np_planner.specs.declared.syntax.Domain.{Domain}
+use Rattle.np_syntax.specs.declared.syntax.Domain.{Domain}
 use Rattle.np_planner.specs.FirstForm.{action_names}
 
 -- the line of the action of this number

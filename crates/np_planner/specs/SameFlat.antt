@@ -8,11 +8,11 @@ use Rattle.np_flat.specs.declared.state.FlatState.{FlatState}
 use Rattle.np_flat.specs.States.{is_goal, next}
 use Rattle.np_flat.specs.Plans.{run_from, cost_sum, Leads, IsPlan as IsFlatPlan, Reaches as ReachesFlat}
 use Rattle.np_flat.specs.Flats.{IsFlat}
-use Rattle.np_planner.specs.declared.syntax.Domain.{Domain}
-use Rattle.np_planner.specs.declared.syntax.Problem.{Problem}
-use Rattle.np_planner.specs.Syntax.{IsDomain, IsProblem}
+use Rattle.np_syntax.specs.declared.syntax.Domain.{Domain}
+use Rattle.np_syntax.specs.declared.syntax.Problem.{Problem}
+use Rattle.np_syntax.specs.Syntax.{IsDomain, IsProblem}
 use Rattle.np_planner.specs.FirstForm.{IsFirstForm}
-use Rattle.np_planner.specs.Counters.{Values, next as next_values, run, is_goal as is_counters_goal, Leads as LeadsCounters}
+use Rattle.np_search.specs.Counters.{Values, next as next_values, run, is_goal as is_counters_goal, Leads as LeadsCounters}
 use Rattle.np_planner.specs.TaskOf.{task_of}
 use Rattle.np_planner.specs.CountersOf.{counters_of}
 use Rattle.np_planner.specs.StateOf.{state_of}

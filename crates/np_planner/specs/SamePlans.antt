@@ -7,12 +7,12 @@ use Rattle.np_model.specs.Names.{is_name}
 use Rattle.np_model.specs.Steps.{next}
 use Rattle.np_model.specs.Tasks.{IsTask}
 use Rattle.np_model.specs.Plans.{start_of, is_goal, run_from, cost_from, IsPlan, IsUnsolvable, NoPlanBelow}
-use Rattle.np_planner.specs.declared.counters.Counters.{Counters}
-use Rattle.np_planner.specs.declared.syntax.Domain.{Domain}
-use Rattle.np_planner.specs.declared.syntax.Problem.{Problem}
-use Rattle.np_planner.specs.Syntax.{IsDomain, IsProblem}
+use Rattle.np_search.specs.declared.counters.Counters.{Counters}
+use Rattle.np_syntax.specs.declared.syntax.Domain.{Domain}
+use Rattle.np_syntax.specs.declared.syntax.Problem.{Problem}
+use Rattle.np_syntax.specs.Syntax.{IsDomain, IsProblem}
 use Rattle.np_planner.specs.FirstForm.{IsFirstForm, action_names}
-use Rattle.np_planner.specs.Counters.{Values, next as next_values, run, is_goal as is_counters_goal, Leads, IsShortest, IsBlocked, NoneShorter, IsInRange}
+use Rattle.np_search.specs.Counters.{Values, next as next_values, run, is_goal as is_counters_goal, Leads, IsShortest, IsBlocked, NoneShorter, IsInRange}
 use Rattle.np_planner.specs.TaskOf.{task_of, step_of}
 use Rattle.np_planner.specs.CountersOf.{counters_of}
 use Rattle.np_planner.specs.StateOf.{state_of}

@@ -4,7 +4,7 @@ use Rattle.std.specs.Str.{bytes_eq}
 use Rattle.np_frac.specs.Fractions.{Fraction, whole}
 use Rattle.np_model.specs.declared.task.Term.{Term}
 use Rattle.np_model.specs.States.{State}
-use Rattle.np_planner.specs.Counters.{Values}
+use Rattle.np_search.specs.Counters.{Values}
 
 -- the value that the counters give a term: the term of function n without objects has the n-th one's, any other has none
 abbrev pub counter_value : Values → Term → Option Fraction

@@ -13,12 +13,12 @@ use Rattle.np_model.specs.declared.task.Signature.{Signature}
 use Rattle.np_model.specs.declared.task.Term.{Term}
 use Rattle.np_model.specs.declared.task.Step.{Step}
 use Rattle.np_model.specs.declared.task.Task.{Task}
-use Rattle.np_planner.specs.declared.syntax.Whole.{Whole}
-use Rattle.np_planner.specs.declared.syntax.Test.{Test}
-use Rattle.np_planner.specs.declared.syntax.Effect.{Effect}
-use Rattle.np_planner.specs.declared.syntax.Action.{Action}
-use Rattle.np_planner.specs.declared.syntax.Domain.{Domain}
-use Rattle.np_planner.specs.declared.syntax.Problem.{Problem}
+use Rattle.np_syntax.specs.declared.syntax.Whole.{Whole}
+use Rattle.np_syntax.specs.declared.syntax.Test.{Test}
+use Rattle.np_syntax.specs.declared.syntax.Effect.{Effect}
+use Rattle.np_syntax.specs.declared.syntax.Action.{Action}
+use Rattle.np_syntax.specs.declared.syntax.Domain.{Domain}
+use Rattle.np_syntax.specs.declared.syntax.Problem.{Problem}
 
 -- the number that decimal digits stand for
 abbrev pub size_of : List ℕ → ℕ

@@ -10,12 +10,12 @@ ghost use Rattle.np_planner.specs.Outcomes.{HasNoPair};
 use crate::answer::{Answer, File};
 use crate::inputs::read_inputs;
 use crate::pair::flat_of;
-use crate::reading::{Refusal, read_domain, read_problem};
 use crate::words::Check;
 use np_cert::{CertFault, read_certificate};
 use np_check::{Verdict, check_certificate};
 use np_flat::Flat;
 use np_io::{Fetch, Shelf};
+use np_syntax::{Refusal, read_domain, read_problem};
 use std::alloc::Global;
 
 /// The flat task of the pair that the bytes of two files spell.

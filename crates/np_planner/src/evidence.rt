@@ -1,13 +1,13 @@
 //! The certificate of what a search has expanded.
 ghost use Rattle.std.specs.Prelude.{◌≡◌, map, length, IfOk};
 ghost use Rattle.np_flat.specs.States.{value_at};
-ghost use Rattle.np_planner.specs.Found.{expanded_of};
+ghost use Rattle.np_search.specs.Found.{expanded_of};
 ghost use Rattle.np_planner.specs.Evidence.{less, entry_of, certificate_of};
 
-use crate::search::Found;
 use np_cert::{Certificate, Entry, Limit, Why};
 use np_flat::{Flat, FlatState};
 use np_model::Term;
+use np_search::Found;
 use sqlite_items::Items;
 use std::alloc::{AllocError, Global};
 

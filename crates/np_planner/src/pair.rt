@@ -1,6 +1,6 @@
 //! A parsed pair of the first form by number, and a plan by name.
 ghost use Rattle.std.specs.Prelude.{◌≡◌, IfOk, IfSome, IfNone};
-ghost use Rattle.np_planner.specs.Syntax.{IsDomain, IsProblem};
+ghost use Rattle.np_syntax.specs.Syntax.{IsDomain, IsProblem};
 ghost use Rattle.np_planner.specs.FirstForm.{IsFirstForm};
 ghost use Rattle.np_planner.specs.CountersOf.{counters_of};
 ghost use Rattle.np_planner.specs.SamePlans.{IsProper};
@@ -15,10 +15,10 @@ mod nets;
 mod readings;
 mod text;
 
-use crate::counters::Counters;
-use crate::syntax::{Domain, Problem};
 use names::Names;
 use np_flat::Flat;
+use np_search::Counters;
+use np_syntax::{Domain, Problem};
 use std::alloc::{AllocError, Global};
 pub use text::plan_text;
 

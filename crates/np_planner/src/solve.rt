@@ -5,23 +5,21 @@ ghost use Rattle.np_planner.specs.Told.{told_solve};
 ghost use Rattle.np_planner.specs.Answers.{shelf_of, most_bytes, IsRight};
 ghost use Rattle.np_planner.specs.Outcomes.{claim_of, IsOutcome, IsOutcomeOf, IsEndingOf, HasNoPair, WasPut, IsUnput, IsPut, Concludes, Finishes};
 ghost use Rattle.np_planner.specs.Pairs.{IsPairOf};
-ghost use Rattle.np_planner.specs.Counters.{IsInRange};
-ghost use Rattle.np_planner.specs.Syntax.{SpellsDomain, SpellsProblem};
+ghost use Rattle.np_search.specs.Counters.{IsInRange};
+ghost use Rattle.np_syntax.specs.Syntax.{SpellsDomain, SpellsProblem};
 ghost use Rattle.np_planner.specs.FirstForm.{IsFirstForm};
-ghost use Rattle.np_planner.specs.declared.search.End.TheVariants as end;
+ghost use Rattle.np_search.specs.declared.breadth_first.End.TheVariants as end;
 
 use crate::answer::{Answer, File};
-use crate::counters::Counters;
 use crate::evidence::evidence;
 use crate::inputs::read_inputs;
 use crate::pair::{counters_of, flat_of, plan_text};
-use crate::reading::{Refusal, read_domain, read_problem};
-use crate::search::{End, search};
-use crate::syntax::{Domain, Problem};
 use crate::words::Solve;
 use np_cert::{Limit, print_certificate};
 use np_flat::Flat;
 use np_io::{Give, Shelf};
+use np_search::{Counters, End, search};
+use np_syntax::{Domain, Problem, Refusal, read_domain, read_problem};
 use std::alloc::{AllocError, Global};
 
 /// What the work on a pair of files comes to.

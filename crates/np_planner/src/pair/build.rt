@@ -1,6 +1,6 @@
 //! The counters of a pair of the first form.
 ghost use Rattle.std.specs.Prelude.{◌≡◌, map, All, IfOk};
-ghost use Rattle.np_planner.specs.Syntax.{IsDomain, IsProblem, IsTest, IsEffect, IsAction, IsValue};
+ghost use Rattle.np_syntax.specs.Syntax.{IsDomain, IsProblem, IsTest, IsEffect, IsAction, IsValue};
 ghost use Rattle.np_planner.specs.FirstForm.{IsFirstForm};
 ghost use Rattle.np_planner.specs.TaskOf.{place_of};
 ghost use Rattle.np_planner.specs.CountersOf.{counters_of, counter_need, counter_change, move_of, start_value, signed_amount};
@@ -8,10 +8,10 @@ ghost use Rattle.np_planner.specs.PairNames.{AreNamesOf};
 
 use super::digits::number;
 use super::names::Names;
-use crate::counters::{Change, Counters, Move, Need};
-use crate::syntax::{Action, Domain, Effect, Problem, Test, Value};
 use indexmap::IndexSet;
 use np_model::Name;
+use np_search::{Change, Counters, Move, Need};
+use np_syntax::{Action, Domain, Effect, Problem, Test, Value};
 use sqlite_items::{Items, at};
 use std::alloc::{AllocError, Global};
 

@@ -1,10 +1,10 @@
 //! The number that a whole number as written stands for.
 ghost use Rattle.std.specs.Prelude.{◌≡◌, ◌<◌, unsigned_abs};
 ghost use Rattle.np_planner.specs.TaskOf.{size_of, number_of};
-ghost use Rattle.np_planner.specs.Syntax.{IsWhole};
-ghost use Rattle.np_planner.specs.Counters.{most};
+ghost use Rattle.np_syntax.specs.Syntax.{IsWhole};
+ghost use Rattle.np_search.specs.Counters.{most};
 
-use crate::syntax::Whole;
+use np_syntax::Whole;
 
 /// The number, exactly. Its 9 digits leave it far from the limits of the type.
 pub fn number(whole: &Whole) -> i128

@@ -1,9 +1,9 @@
 //! The flat task of a pair of the first form.
 ghost use Rattle.std.specs.Prelude.{◌≡◌, [], map, length, ◌^◌, ◌<◌, unsigned_abs, All, IfOk};
-ghost use Rattle.np_planner.specs.Syntax.{IsDomain, IsProblem, IsTest};
+ghost use Rattle.np_syntax.specs.Syntax.{IsDomain, IsProblem, IsTest};
 ghost use Rattle.np_planner.specs.FirstForm.{IsFirstForm};
 ghost use Rattle.np_planner.specs.PairNames.{AreNamesOf};
-ghost use Rattle.np_planner.specs.Counters.{most};
+ghost use Rattle.np_search.specs.Counters.{most};
 ghost use Rattle.np_planner.specs.TaskOf.{term_of};
 ghost use Rattle.np_planner.specs.CountersOf.{start_value};
 ghost use Rattle.np_planner.specs.SamePlans.{IsProper};
@@ -14,10 +14,10 @@ use super::build::start_values;
 use super::names::Names;
 use super::nets::changes;
 use super::readings::{Reading, name_number, reading, reading_number, readings};
-use crate::syntax::{Action, Domain, Problem, Test};
 use indexmap::IndexSet;
 use np_flat::{Flat, FlatState, FlatStep, Form, Parts, Subgoal, put_in};
 use np_model::{Name, Step, Term};
+use np_syntax::{Action, Domain, Problem, Test};
 use sqlite_items::Items;
 use std::alloc::{AllocError, Global};
 

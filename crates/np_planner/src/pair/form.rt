@@ -6,9 +6,9 @@ ghost use Rattle.np_planner.specs.FirstForm.{IsFirstForm, action_names, tested, 
 ghost use Rattle.np_planner.specs.PairNames.{AreNamesOf, each_once};
 
 use super::names::Names;
-use crate::syntax::{Domain, Problem};
 use indexmap::IndexSet;
 use np_model::Name;
+use np_syntax::{Domain, Problem};
 
 const MAX_FUNCTIONS: usize = 1000;
 

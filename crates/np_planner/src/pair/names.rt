@@ -4,9 +4,9 @@ ghost use Rattle.std.specs.List.{flat_map};
 ghost use Rattle.std.specs.Str.{bytes_eq};
 ghost use Rattle.indexmap.specs.IndexSet.{insert_key, insert_all};
 
-use crate::syntax::{Action, Domain, Effect, Problem, Test, Value};
 use indexmap::IndexSet;
 use np_model::Name;
+use np_syntax::{Action, Domain, Effect, Problem, Test, Value};
 use std::alloc::{AllocError, Global};
 
 /// What goes by a name.

@@ -1,13 +1,13 @@
 //! What the effects of an action add to the values.
 ghost use Rattle.std.specs.Prelude.{◌≡◌, map, length, ◌^◌, ◌<◌, All, Contains, IfOk};
-ghost use Rattle.np_planner.specs.Syntax.{IsEffect};
+ghost use Rattle.np_syntax.specs.Syntax.{IsEffect};
 ghost use Rattle.np_planner.specs.FlatOf.{net_on, changes_from};
 ghost use Rattle.np_planner.specs.FlatParts.{some_from};
 
 use super::build::{place, signed_amount};
-use crate::syntax::Effect;
 use indexmap::IndexSet;
 use np_model::Name;
+use np_syntax::Effect;
 use sqlite_items::Items;
 use std::alloc::{AllocError, Global};
 

@@ -2,15 +2,15 @@
 ghost use Rattle.std.specs.Prelude.{◌≡◌, [], map, length, ◌^◌, ◌<◌, All, IfOk, OnOk};
 ghost use Rattle.std.specs.List.{flat_map};
 ghost use Rattle.indexmap.specs.IndexSet.{insert_all};
-ghost use Rattle.np_planner.specs.Syntax.{IsDomain, IsProblem, IsTest};
+ghost use Rattle.np_syntax.specs.Syntax.{IsDomain, IsProblem, IsTest};
 ghost use Rattle.np_planner.specs.TaskOf.{place_of};
 ghost use Rattle.np_planner.specs.FlatOf.{same_reading, first_readings, reading_of, reading_number, all_tests};
 
 use super::build::place;
 use super::digits::number;
-use crate::syntax::{Action, Domain, Problem, Test};
 use indexmap::IndexSet;
 use np_model::Name;
+use np_syntax::{Action, Domain, Problem, Test};
 use std::alloc::{AllocError, Global};
 
 /// A test: the number of the value that it reads, and what that has to be at least.

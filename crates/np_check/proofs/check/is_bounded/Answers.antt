@@ -15,7 +15,7 @@ returns c =
     let there : slice_get task.steps c.args.step ≡ Some step =
     slice_get_read task.steps (length task.steps) c.args.step step refl c.requires.number (subst (λ xs. step ≡ get_or xs c.args.step step) steps c.index-steps-step.is)
     in
-    bounded_step task c.args.first.now entry c.args.step step c.in_ok-after.after c.is_within.result there c.in_ok-after.ensures.after
+    bounded_step task c.args.first.now entry c.args.step step c.after_in.new.after c.is_within.result there c.in_ok-after_in.ensures.after
     (c.is_within.ensures
     ∙ ap (at_most entry.bound)
-    (ap (λ (x : FlatStep). after_cost x.cost c.bound.result) (sym c.index-steps-step.is) ∙ ap (after_cost step.cost) c.bound.ensures))
+    (ap (λ (x : FlatStep). after_cost x.cost c.bound_near-rest.result) (sym c.index-steps-step.is) ∙ ap (after_cost step.cost) c.bound_near-rest.ensures))

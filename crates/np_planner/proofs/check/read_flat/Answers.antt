@@ -1,11 +1,11 @@
 use Rattle.std.proofs.Common.{rules, subst, Option}
 use Rattle.std.specs.Prelude.{IfNone}
 use Rattle.np_flat.specs.declared.parts.Parts.{Parts}
-use Rattle.np_planner.specs.declared.syntax.Domain.{Domain}
-use Rattle.np_planner.specs.declared.syntax.Problem.{Problem}
+use Rattle.np_syntax.specs.declared.syntax.Domain.{Domain}
+use Rattle.np_syntax.specs.declared.syntax.Problem.{Problem}
 use Rattle.np_planner.specs.FirstForm.{IsFirstForm}
 use Rattle.np_planner.proofs.Proper.{is_proper}
-use Rattle.np_planner.proofs.ReadingTexts.{one_domain, one_problem}
+use Rattle.np_syntax.proofs.ReadingTexts.{one_domain, one_problem}
 use Rattle.np_planner.proofs.check.read_flat.Goals as goal
 
 pub returns-in-Err-clause-not_built : goal.returns-in-Err-clause-not_built

@@ -1,5 +1,5 @@
 use Rattle.std.proofs.Common.{◌≡◌, map, take}
-use Rattle.np_planner.specs.Found.{expanded_of}
+use Rattle.np_search.specs.Found.{expanded_of}
 use Rattle.np_planner.specs.Evidence.{entry_of}
 use Rattle.np_planner.proofs.evidence.evidence.Given as goal
 

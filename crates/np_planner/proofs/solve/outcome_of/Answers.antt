@@ -1,9 +1,9 @@
 use Rattle.std.proofs.Common.{ℕ, ◌<◌, sym, subst}
 use Rattle.std.specs.Prelude.{All}
 use Rattle.np_cert.specs.Text.{IsThin}
-use Rattle.np_planner.specs.declared.search.End.{End}
-use Rattle.np_planner.specs.declared.search.End.TheVariants as end
-use Rattle.np_planner.specs.Found.{expanded_of, IsEnd}
+use Rattle.np_search.specs.declared.breadth_first.End.{End}
+use Rattle.np_search.specs.declared.breadth_first.End.TheVariants as end
+use Rattle.np_search.specs.Found.{expanded_of, IsEnd}
 use Rattle.np_planner.proofs.Outcomes.{numbers_name, thin_certificate, outcome_is}
 use Rattle.np_planner.proofs.solve.outcome_of.Goals as goal
 

@@ -1,10 +1,10 @@
 use Rattle.std.proofs.Common.{rules, subst, Option}
 use Rattle.std.specs.Prelude.{IfNone}
-use Rattle.np_planner.specs.declared.counters.Counters.{Counters}
-use Rattle.np_planner.specs.declared.syntax.Domain.{Domain}
-use Rattle.np_planner.specs.declared.syntax.Problem.{Problem}
+use Rattle.np_search.specs.declared.counters.Counters.{Counters}
+use Rattle.np_syntax.specs.declared.syntax.Domain.{Domain}
+use Rattle.np_syntax.specs.declared.syntax.Problem.{Problem}
 use Rattle.np_planner.specs.FirstForm.{IsFirstForm}
-use Rattle.np_planner.proofs.ReadingTexts.{one_domain, one_problem}
+use Rattle.np_syntax.proofs.ReadingTexts.{one_domain, one_problem}
 use Rattle.np_planner.proofs.Proper.{is_proper}
 use Rattle.np_planner.proofs.solve.read_pair.Goals as goal
 

@@ -1,5 +1,5 @@
 use Rattle.std.proofs.Common.{sym, subst}
-use Rattle.np_planner.specs.Counters.{IsInRange}
+use Rattle.np_search.specs.Counters.{IsInRange}
 use Rattle.np_planner.proofs.SamePlansRange.{in_range}
 use Rattle.np_planner.proofs.Outcomes.{says_of}
 use Rattle.np_planner.proofs.solve.work.Goals as goal

@@ -6,7 +6,7 @@ use Rattle.np_cert.proofs.ReadingLaws.{with_front}
 use Rattle.np_cert.proofs.read.parts.facts_to_right.Given as goal
 
 abbrev pub invariant-row : goal.invariant-row
-invariant-row l = with_front l.found (row (natural (2 ^ 32)) (pieces_left l.rest)) ≡ row (natural (2 ^ 32)) (pieces_left l.fn.lexer)
+invariant-row l = with_front l.found (row (natural (2 ^ 32)) (pieces_left l.lexer)) ≡ row (natural (2 ^ 32)) (pieces_left l.fn.lexer)
 
 abbrev pub decreases-row : goal.decreases-row
-decreases-row l = length (pieces_left l.rest)
+decreases-row l = length (pieces_left l.lexer)

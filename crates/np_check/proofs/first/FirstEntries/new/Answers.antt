@@ -1,5 +1,6 @@
-use Rattle.std.proofs.Common.{◌≡◌, ◌+◌, ◌-◌, ◌<◌, length, get_or, refl, arith}
+use Rattle.std.proofs.Common.{◌≡◌, ◌+◌, ◌-◌, ◌<◌, length, get_or, refl, subst, arith}
 use Rattle.std.proofs.lemmas.Option.{slice_get-get_or}
+use Rattle.np_check.specs.First.{ArePlaced}
 use Rattle.np_check.proofs.LookUps.{first_more, once_more}
 use Rattle.np_check.proofs.first.FirstEntries.new.Goals as goal
 
@@ -16,3 +17,8 @@ loop-number-preserved c =
       once = once_more c.loop-number.numbers entries (n - 1) n (get_or entries (n - 1) d) (record { ref_ptr = c.args.entries.ref_ptr; now = (get_or entries (n - 1) d).state }) c.in_ok-later.later c.loop-number.distinct c.is_none-distinct.result one there c.in_ok-later.ensures.old refl c.is_none-distinct.ensures
           c.loop-number.invariant.first c.loop-number.invariant.once;
     }
+
+pub invariant_of-result : goal.invariant_of-result
+invariant_of-result c =
+    let all : ◌≡◌ c.loop-number.number 0 = omega arith in
+    subst (ArePlaced c.loop-number.numbers c.loop-number.distinct c.args.entries.now) all c.loop-number.invariant

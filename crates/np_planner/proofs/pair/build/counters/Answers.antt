@@ -1,5 +1,5 @@
 use Rattle.std.proofs.Common.{map, All, ap, sym, subst, ◌∙◌}
-use Rattle.np_planner.specs.Syntax.{IsAction}
+use Rattle.np_syntax.specs.Syntax.{IsAction}
 use Rattle.np_planner.specs.FirstForm.{valued}
 use Rattle.np_planner.specs.CountersOf.{counter_need, move_of, start_value}
 use Rattle.np_planner.proofs.PairLemmas.{each_once-same}

@@ -1,5 +1,5 @@
 use Rattle.std.proofs.Common.{sym, subst}
-use Rattle.np_planner.specs.Syntax.{IsAction}
+use Rattle.np_syntax.specs.Syntax.{IsAction}
 use Rattle.np_planner.proofs.pair.build.moves.Goals as goal
 
 pub move_for-requires : goal.move_for-requires

@@ -1,7 +1,7 @@
 use Rattle.std.proofs.Common.{◌≡◌, ℕ, ◌<◌, ◌^◌, List, [], map, length, All, unsigned_abs, pos, ap, sym, subst, ◌∙◌, arith}
-use Rattle.np_planner.specs.declared.syntax.Domain.{Domain}
-use Rattle.np_planner.specs.declared.syntax.Problem.{Problem}
-use Rattle.np_planner.specs.Counters.{most}
+use Rattle.np_syntax.specs.declared.syntax.Domain.{Domain}
+use Rattle.np_syntax.specs.declared.syntax.Problem.{Problem}
+use Rattle.np_search.specs.Counters.{most}
 use Rattle.np_planner.specs.FlatOf.{Reading, value_order, readings_of, subgoal_of, reading_of, first_readings, all_tests}
 use Rattle.np_planner.specs.FlatParts.{needs_by, steps_by, HasStep}
 use Rattle.np_planner.specs.FirstForm.{IsFirstForm, valued}

@@ -1,9 +1,9 @@
 use Rattle.std.proofs.Common.{ap, map, sym, subst, ◌∙◌, All}
 use Rattle.std.specs.List.{flat_map}
 use Rattle.indexmap.specs.IndexSet.{insert_all}
-use Rattle.np_planner.specs.Syntax.{IsTest}
+use Rattle.np_syntax.specs.Syntax.{IsTest}
 use Rattle.np_planner.specs.FlatOf.{same_reading, reading_of}
-use Rattle.np_planner.specs.declared.syntax.Action.{Action}
+use Rattle.np_syntax.specs.declared.syntax.Action.{Action}
 use Rattle.np_planner.proofs.FlatSteps.{readings_by}
 use Rattle.np_planner.proofs.pair.readings.readings.Goals as goal
 

@@ -1,6 +1,0 @@
--- Texts of digits.
-use Rattle.std.specs.Prelude.{◌≡◌, ℕ, ◌<◌, List, length, slice_index_or}
-
--- the text isn't empty, and 0 in front stands alone
-abbrev pub HasNoLeadingZero : List ℕ → Type 0
-HasNoLeadingZero text = (0 < length text) × (slice_index_or text 0 0 ≡ 48 → length text ≡ 1)

@@ -1,0 +1,4 @@
+pub mod Counters
+pub mod Explored
+pub mod Found
+pub mod SearchTree

@@ -1,0 +1,4 @@
+pub mod ReadingForms
+pub mod ReadingLaws
+pub mod ReadingTexts
+pub mod ReadingWords

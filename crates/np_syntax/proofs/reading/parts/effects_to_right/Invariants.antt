@@ -1,0 +1,12 @@
+use Rattle.std.proofs.Common.{◌≡◌, length}
+use Rattle.np_lex.specs.Lexers.{pieces_left}
+use Rattle.np_syntax.specs.ReadingSteps.{row}
+use Rattle.np_syntax.specs.ReadingForm.{effect}
+use Rattle.np_syntax.proofs.ReadingLaws.{with_front}
+use Rattle.np_syntax.proofs.reading.parts.effects_to_right.Given as goal
+
+abbrev pub invariant-row : goal.invariant-row
+invariant-row l = with_front l.found (row effect (pieces_left l.rest)) ≡ row effect (pieces_left l.fn.lexer)
+
+abbrev pub decreases-row : goal.decreases-row
+decreases-row l = length (pieces_left l.rest)

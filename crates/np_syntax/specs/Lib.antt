@@ -1,0 +1,4 @@
+pub mod ReadingAnswers
+pub mod ReadingForm
+pub mod ReadingSteps
+pub mod Syntax
