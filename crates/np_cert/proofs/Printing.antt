@@ -21,7 +21,8 @@ use Rattle.np_cert.specs.declared.certificate.Limit.{Limit}
 use Rattle.np_cert.specs.declared.certificate.Limit.TheVariants as limit
 use Rattle.np_cert.specs.declared.certificate.Entry.{Entry}
 use Rattle.np_cert.specs.declared.certificate.Certificate.{Certificate}
-use Rattle.np_cert.specs.Text.{Printed, most, IsLimit, IsWrittenEntry, IsWritten, Spells, integer_text}
+use Rattle.np_cert.specs.Text.{most, IsLimit, IsWrittenEntry, IsWritten, Spells, integer_text}
+use Rattle.np_lex.specs.Printers.{Printed, all}
 use Rattle.np_cert.specs.Text as printed
 use Rattle.np_cert.specs.Layout.{limit_text, fact_text, value_text, entry_text, certificate_text}
 
@@ -119,11 +120,11 @@ separates_all shown [] rest separates = separates
 separates_all {text} shown (a ∷ more) rest separates = subst Separates (sym (append_assoc (text a) (flat_map text more) rest)) (shown.first a (flat_map text more ++ rest))
 
 -- and have the lexemes of each in turn
-shows_all : {A : Type 0} {P : A → Type 0} {text : A → List ℕ} {print : A → Printed} → IsShown P text print → {rest : List ℕ} {ls : List Lexeme} (items : List A) → All P items → Shows rest ls → Separates rest → Shows (flat_map text items ++ rest) (printed.all print items ls)
+shows_all : {A : Type 0} {P : A → Type 0} {text : A → List ℕ} {print : A → Printed} → IsShown P text print → {rest : List ℕ} {ls : List Lexeme} (items : List A) → All P items → Shows rest ls → Separates rest → Shows (flat_map text items ++ rest) (all print items ls)
 shows_all shown [] holds e separates = e
 shows_all {P} {text} {print} shown {rest} {ls} (a ∷ more) holds e separates =
-    subst (λ (bytes : List ℕ). Shows bytes (print a (printed.all print more ls))) (sym (append_assoc (text a) (flat_map text more) rest))
-    (shown.each a (flat_map text more ++ rest) (printed.all print more ls) (All-head P a more holds) (shows_all shown more (All-tail P a more holds) e separates) (separates_all shown more rest separates))
+    subst (λ (bytes : List ℕ). Shows bytes (print a (all print more ls))) (sym (append_assoc (text a) (flat_map text more) rest))
+    (shown.each a (flat_map text more ++ rest) (all print more ls) (All-head P a more holds) (shows_all shown more (All-tail P a more holds) e separates) (separates_all shown more rest separates))
 
 -- facts and values of a state
 shown_facts : IsShown (λ p. p < 2 ^ 32) fact_text printed.natural

@@ -10,11 +10,15 @@ use Rattle.np_cert.specs.declared.certificate.Why.TheVariants.{Expanded}
 use Rattle.np_cert.specs.declared.certificate.Entry.{Entry}
 use Rattle.np_cert.specs.declared.certificate.Certificate.{Certificate}
 use Rattle.np_count.specs.declared.proof.Proof.{Proof}
-use Rattle.np_cert.specs.Text.{Printed, all, most, IsLimit, IsWrittenEntry, IsWritten}
+use Rattle.np_cert.specs.Text.{most, IsLimit, IsWrittenEntry, IsWritten}
+use Rattle.np_lex.specs.Printers.{Printed, all}
 use Rattle.np_cert.specs.Text as printed
-use Rattle.np_cert.specs.ReadingSteps.{Outcome, and_then, expect, right}
-use Rattle.np_cert.specs.ReadingForm.{named, numeral, natural, none_or, limit, facts, values, entry, claim, no_proofs, entries, certificate}
-use Rattle.np_cert.proofs.ReadingLaws.{Gets, Took, Reads, IsAny, then_at, reads_expect, reads_open, reads_both, reads_made, reads_behind, reads_before, reads_row, not_right, not_right_number}
+use Rattle.np_lex.specs.Readers.{Outcome, and_then, expect}
+use Rattle.np_lex.specs.Tokens.{right}
+use Rattle.np_cert.specs.ReadingForm.{natural, none_or, limit, facts, values, entry, claim, no_proofs, entries, certificate}
+use Rattle.np_lex.specs.Tokens.{named, numeral}
+use Rattle.np_lex.proofs.ReaderLaws.{Gets, Took, Reads, IsAny, then_at, reads_expect, reads_open, reads_both, reads_made, reads_behind, reads_before, reads_row, not_right}
+use Rattle.np_cert.proofs.ReadingLaws.{not_right_number}
 use Rattle.np_cert.proofs.ReadingNumbers.{reads_natural, reads_integer}
 
 -- ---- as they are printed, in front of what follows

@@ -9,12 +9,16 @@ use Rattle.np_lex.specs.Tokens.{Lexeme, Piece, word, bad}
 use Rattle.np_lex.specs.Lexers.{pieces_left, Takes, Leaves}
 use Rattle.np_cert.specs.declared.read.fault.CertFault.{CertFault}
 use Rattle.np_cert.specs.declared.certificate.Limit.TheVariants.{Number, Absent}
-use Rattle.np_cert.specs.Text.{Printed, most}
+use Rattle.np_cert.specs.Text.{most}
+use Rattle.np_lex.specs.Printers.{Printed}
 use Rattle.np_cert.specs.ReadingAnswers.{Refuses}
-use Rattle.np_cert.specs.ReadingSteps.{Outcome, Reader, and_then, same_kind, same_lexeme, next, expect, right, made, row}
-use Rattle.np_cert.specs.ReadingForm.{named, numeral, natural_of, integer_of, in_front, number_by, none_or, natural, integer, limit}
+use Rattle.np_lex.specs.Readers.{Outcome, Reader, and_then, same_kind, same_lexeme, next, expect, made, row}
+use Rattle.np_lex.specs.Tokens.{right}
+use Rattle.np_cert.specs.ReadingForm.{natural_of, integer_of, in_front, number_by, none_or, natural, integer, limit}
+use Rattle.np_lex.specs.Tokens.{named, numeral}
 use Rattle.np_cert.proofs.ReadingNumbers.{natural_decimal, integer_is}
-use Rattle.np_cert.proofs.ReadingLaws.{Reads, expect_back, same_lexeme_is, same_kind_true, with_front, loop_goes_on, loop_refuses, loop_done, is_shorter}
+use Rattle.np_lex.proofs.ReaderLaws.{Reads, expect_back, same_lexeme_is, same_kind_true, with_front, loop_goes_on, loop_done, is_shorter}
+use Rattle.np_cert.proofs.ReadingLaws.{loop_refuses}
 
 -- what is taken was expected
 pub is_taken : (old new : Lexer) (lexeme : Lexeme) → Takes old new lexeme → expect lexeme (pieces_left old) ≡ Some (tt, pieces_left new)

@@ -14,11 +14,12 @@ use Rattle.std.proofs.lemmas.Slice.Eq.{bytes_eq-Decides}
 use Rattle.np_lex.specs.Tokens.{Lexeme, Piece, word, bad, lower}
 use Rattle.np_lex.specs.declared.token.Kind.{Kind}
 use Rattle.np_lex.specs.declared.token.Kind.TheVariants.{Number}
-use Rattle.np_cert.specs.Text.{Printed, most, integer_text}
+use Rattle.np_cert.specs.Text.{most, integer_text}
+use Rattle.np_lex.specs.Printers.{Printed}
 use Rattle.np_cert.specs.Text as printed
-use Rattle.np_cert.specs.ReadingSteps.{and_then, same_kind, next}
+use Rattle.np_lex.specs.Readers.{and_then, same_kind, next}
 use Rattle.np_cert.specs.ReadingForm.{natural_of, below_zero, integer_of, in_front, number_by, natural, integer}
-use Rattle.np_cert.proofs.ReadingLaws.{Gets, Took, Reads, same_kind_true}
+use Rattle.np_lex.proofs.ReaderLaws.{Gets, Took, Reads, same_kind_true}
 
 -- what holds of the value, where there is one
 abbrev pub IfThere : {A : Type 0} → (A → Type 0) → Option A → Type 0

@@ -9,11 +9,12 @@ use Rattle.np_cert.specs.declared.certificate.Certificate.{Certificate}
 use Rattle.np_cert.specs.declared.read.fault.CertFault.{CertFault}
 use Rattle.np_cert.specs.declared.read.fault.CertFault.TheVariants.{At, Memory}
 use Rattle.np_cert.specs.ReadingAnswers.{Gives}
-use Rattle.np_cert.specs.Text.{Printed, Spells, certificate}
+use Rattle.np_cert.specs.Text.{Spells, certificate}
+use Rattle.np_lex.specs.Printers.{Printed}
 use Rattle.np_cert.specs.ReadingOnce.{OneValue}
-use Rattle.np_cert.specs.ReadingSteps.{Outcome, Reader, alone, whole_text}
+use Rattle.np_lex.specs.Readers.{Outcome, Reader, alone, whole_text}
 use Rattle.np_cert.specs.ReadingForm as form
-use Rattle.np_cert.proofs.ReadingLaws.{Took, Reads, gets}
+use Rattle.np_lex.proofs.ReaderLaws.{Took, Reads, gets}
 use Rattle.np_cert.proofs.ReadingForms.{certificate_then, after_title, reads_certificate}
 
 -- ---- pieces and lexemes

@@ -4,4 +4,3 @@ pub mod Layout
 pub mod ReadingAnswers
 pub mod ReadingForm
 pub mod ReadingOnce
-pub mod ReadingSteps

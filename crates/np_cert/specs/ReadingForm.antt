@@ -2,22 +2,15 @@
 use Rattle.std.specs.Prelude.{ℕ, zero, suc, ◌^◌, ℤ, pos, negsuc, ◌==◌, ◌&&◌, nat_lt, List, [], ◌∷◌, Option, None, Some, codes, decimal, bytes_eq, if◌then◌else◌}
 use Rattle.std.specs.Option.{option_map}
 use Rattle.std.specs.Str.Parse.{digits_value}
-use Rattle.np_lex.specs.Tokens.{Lexeme, Piece}
-use Rattle.np_lex.specs.declared.token.Kind.TheVariants.{Name, Number as NumberKind}
+use Rattle.np_lex.specs.Tokens.{Lexeme, Piece, right, named, numeral}
+use Rattle.np_lex.specs.declared.token.Kind.TheVariants.{Number as NumberKind}
 use Rattle.np_cert.specs.declared.certificate.Limit.{Limit}
 use Rattle.np_cert.specs.declared.certificate.Limit.TheVariants.{Number, Absent}
 use Rattle.np_cert.specs.declared.certificate.Why.TheVariants.{Expanded}
 use Rattle.np_cert.specs.declared.certificate.Entry.{Entry}
 use Rattle.np_cert.specs.declared.certificate.Certificate.{Certificate}
 use Rattle.np_cert.specs.Text.{most}
-use Rattle.np_cert.specs.ReadingSteps.{Outcome, Reader, and_then, same_kind, next, expect, right, open_with, behind, before, both, made, row}
-
--- a lexeme that is a word of the form
-abbrev pub named : List ℕ → Lexeme
-named text = record { kind = Name; text = text }
-
-abbrev pub numeral : List ℕ → Lexeme
-numeral text = record { kind = NumberKind; text = text }
+use Rattle.np_lex.specs.Readers.{Outcome, Reader, and_then, same_kind, next, expect, open_with, behind, before, both, made, row}
 
 -- the number below the bound that the text is the decimal of
 unfoldable pub natural_of : ℕ → List ℕ → Option ℕ

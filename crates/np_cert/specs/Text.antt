@@ -2,16 +2,13 @@
 -- project's own.
 use Rattle.std.specs.Prelude.{◌≡◌, ℕ, ◌^◌, ◌<◌, ℤ, pos, negsuc, suc, unsigned_abs, ⊤, List, [], ◌∷◌, ◌++◌, All, Some, codes, decimal}
 use Rattle.np_lex.specs.Tokens.{Lexeme, lexemes}
+use Rattle.np_lex.specs.Printers.{Printed, all}
 use Rattle.np_lex.specs.declared.token.Kind.TheVariants as kind
 use Rattle.np_cert.specs.declared.certificate.Limit.{Limit}
 use Rattle.np_cert.specs.declared.certificate.Limit.TheVariants.{Number, Absent}
 use Rattle.np_cert.specs.declared.certificate.Why.TheVariants as why
 use Rattle.np_cert.specs.declared.certificate.Entry.{Entry}
 use Rattle.np_cert.specs.declared.certificate.Certificate.{Certificate}
-
--- what is printed, in front of what follows
-abbrev pub Printed : Type 0
-Printed = List Lexeme → List Lexeme
 
 abbrev pub left : Printed
 left rest = (record { kind = kind.Left; text = codes "(" }) ∷ rest
@@ -24,11 +21,6 @@ word text rest = (record { kind = kind.Name; text = text }) ∷ rest
 
 abbrev pub number : List ℕ → Printed
 number text rest = (record { kind = kind.Number; text = text }) ∷ rest
-
--- one after the other
-abbrev pub all : {A : Type 0} → (A → Printed) → List A → Printed
-all print [] rest = rest
-all print (x ∷ xs) rest = print x (all print xs rest)
 
 -- a number without sign, and without a leading zero other than 0 itself
 abbrev pub natural : ℕ → Printed

@@ -5,7 +5,7 @@ ghost use Rattle.np_lex.specs.Lexers.{pieces_left};
 ghost use Rattle.np_lex.specs.Tokens.{pieces};
 ghost use Rattle.np_lex.specs.declared.token.Place.{Place};
 ghost use Rattle.np_cert.specs.ReadingAnswers.{Gives};
-ghost use Rattle.np_cert.specs.ReadingSteps as steps;
+ghost use Rattle.np_lex.specs.Readers as steps;
 ghost use Rattle.np_cert.specs.ReadingForm as form;
 ghost use Rattle.np_cert.specs.Text.{Spells};
 ghost use Rattle.np_cert.specs.declared.certificate.Certificate.{Certificate};

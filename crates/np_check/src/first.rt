@@ -86,6 +86,7 @@ impl<'a> FirstEntries<'a> {
     pub fn bound(&self, state: &FlatState) -> Limit
         ensures { result ≡ bound_at self.now state.now }
     {
+        // Any guess serves; the start's entry is mostly the first one.
         let mut guess = 0;
         self.bound_near(&mut guess, state)
     }

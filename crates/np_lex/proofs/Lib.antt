@@ -7,6 +7,7 @@ pub mod Names
 pub mod NumberFronts
 pub mod Pieces
 pub mod Printed
+pub mod ReaderLaws
 pub mod Readings
 pub mod Shifts
 pub mod Streams

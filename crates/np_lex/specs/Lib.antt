@@ -4,4 +4,6 @@ pub mod FirstToken
 pub mod Lexers
 pub mod Lines
 pub mod LongestToken
+pub mod Printers
+pub mod Readers
 pub mod Tokens

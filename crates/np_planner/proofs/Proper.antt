@@ -21,11 +21,12 @@ use Rattle.np_syntax.specs.declared.syntax.Test.{Test}
 use Rattle.np_syntax.specs.declared.syntax.Effect.{Effect}
 use Rattle.np_syntax.specs.declared.syntax.Action.{Action}
 use Rattle.np_syntax.specs.declared.syntax.Domain.{Domain}
-use Rattle.np_syntax.specs.Syntax.{IsName, SpellsDomain, all, term, test, effect, action, domain, right}
+use Rattle.np_syntax.specs.Syntax.{IsName, SpellsDomain, term, test, effect, action, domain, right}
+use Rattle.np_lex.specs.Printers.{all}
 use Rattle.np_syntax.specs.ReadingForm.{is_reserved}
 use Rattle.np_planner.specs.SamePlans.{IsProper}
 use Rattle.np_planner.specs.Answers.{most_bytes}
-use Rattle.np_syntax.proofs.ReadingLaws.{both_true}
+use Rattle.np_lex.proofs.ReaderLaws.{both_true}
 use Rattle.np_syntax.proofs.ReadingWords.{not_reserved}
 
 -- ---- names

@@ -8,11 +8,13 @@ use Rattle.np_syntax.specs.declared.syntax.Action.{Action}
 use Rattle.np_syntax.specs.declared.syntax.Domain.{Domain}
 use Rattle.np_syntax.specs.declared.syntax.Value.{Value}
 use Rattle.np_syntax.specs.declared.syntax.Problem.{Problem}
-use Rattle.np_syntax.specs.Syntax.{Printed, all, IsName, IsWhole, IsTest, IsEffect, IsAction, IsDomain, IsValue, IsProblem}
+use Rattle.np_syntax.specs.Syntax.{IsName, IsWhole, IsTest, IsEffect, IsAction, IsDomain, IsValue, IsProblem}
+use Rattle.np_lex.specs.Printers.{Printed, all}
 use Rattle.np_syntax.specs.Syntax as printed
-use Rattle.np_syntax.specs.ReadingSteps.{left, right}
-use Rattle.np_syntax.specs.ReadingForm.{named, keyword, operator, term, lower_limit, tests, effect, effects, no_parameters, action, titled, functions, domain, value, domain_name, values, goal, problem}
-use Rattle.np_syntax.proofs.ReadingLaws.{Reads, IsAny, reads_expect, reads_open, reads_both, reads_made, reads_behind, reads_before, reads_row, not_right}
+use Rattle.np_lex.specs.Tokens.{left, right}
+use Rattle.np_syntax.specs.ReadingForm.{keyword, operator, term, lower_limit, tests, effect, effects, no_parameters, action, titled, functions, domain, value, domain_name, values, goal, problem}
+use Rattle.np_lex.specs.Tokens.{named}
+use Rattle.np_lex.proofs.ReaderLaws.{Reads, IsAny, reads_expect, reads_open, reads_both, reads_made, reads_behind, reads_before, reads_row, not_right}
 use Rattle.np_syntax.proofs.ReadingWords.{reads_name, reads_whole, reads_direction}
 
 -- ---- as they are printed, in front of what follows
@@ -51,7 +53,7 @@ pub reads_test : Reads IsTest printed.test lower_limit
 unfolding lower_limit
 reads_test =
     reads_behind (reads_open (operator (codes ">="))) (reads_before right
-    (reads_made IsTest (λ x. record { function = x.0; least = x.1 }) (λ (t : Test). (t.function, t.least)) (λ _. refl) (λ _. refl)
+    (reads_made IsTest (λ x. record { function = x.0; least = x.1 }) (λ (t : Test). (t.function, t.least)) (λ _. refl) (λ _ _. refl)
     (λ a h. record { function = h.0; least = h.1 }) (λ t h. (h.function, h.least)) (reads_both reads_term reads_whole)))
 
 pub reads_tests : Reads (All IsTest) printed.tests tests
@@ -62,7 +64,7 @@ pub reads_effect : Reads IsEffect printed.effect effect
 unfolding effect
 reads_effect =
     reads_behind (reads_expect left) (reads_before right
-    (reads_made IsEffect (λ x. record { increases = x.0; function = x.1.0; amount = x.1.1 }) (λ (e : Effect). (e.increases, (e.function, e.amount))) (λ _. refl) (λ _. refl)
+    (reads_made IsEffect (λ x. record { increases = x.0; function = x.1.0; amount = x.1.1 }) (λ (e : Effect). (e.increases, (e.function, e.amount))) (λ _. refl) (λ _ _. refl)
     (λ a h. record { function = h.1.0; amount = h.1.1 }) (λ e h. (tt, (h.function, h.amount))) (reads_both reads_direction (reads_both reads_term reads_whole))))
 
 pub reads_effects : Reads (All IsEffect) effects_then effects
@@ -77,7 +79,7 @@ pub reads_action : Reads IsAction printed.action action
 unfolding action
 reads_action =
     reads_behind (reads_open (keyword (codes ":action"))) (reads_before right
-    (reads_made IsAction (λ x. record { name = x.0; tests = x.1.0; effects = x.1.1 }) (λ (a : Action). (a.name, (a.tests, a.effects))) (λ _. refl) (λ _. refl)
+    (reads_made IsAction (λ x. record { name = x.0; tests = x.1.0; effects = x.1.1 }) (λ (a : Action). (a.name, (a.tests, a.effects))) (λ _. refl) (λ _ _. refl)
     (λ a h. record { name = h.0; tests = h.1.0; effects = h.1.1 }) (λ a h. (h.name, (h.tests, h.effects)))
     (reads_both reads_name (reads_behind reads_no_parameters (reads_behind (reads_expect (keyword (codes ":precondition")))
     (reads_both reads_tests (reads_behind (reads_expect (keyword (codes ":effect"))) reads_effects)))))))
@@ -93,7 +95,7 @@ reads_functions = reads_behind (reads_open (keyword (codes ":functions"))) (read
 pub reads_domain : Reads IsDomain domain_then domain
 unfolding domain
 reads_domain =
-    reads_made IsDomain (λ x. record { name = x.0; functions = x.1.0; actions = x.1.1 }) (λ (d : Domain). (d.name, (d.functions, d.actions))) (λ _. refl) (λ _. refl)
+    reads_made IsDomain (λ x. record { name = x.0; functions = x.1.0; actions = x.1.1 }) (λ (d : Domain). (d.name, (d.functions, d.actions))) (λ _. refl) (λ _ _. refl)
     (λ a h. record { name = h.0; functions = h.1.0; actions = h.1.1 }) (λ d h. (h.name, (h.functions, h.actions)))
     (reads_both (reads_titled (codes "domain")) (reads_both reads_functions (reads_row reads_action (λ a ls. not_right (printed.action a ls) refl))))
 
@@ -101,7 +103,7 @@ pub reads_value : Reads IsValue printed.value value
 unfolding value
 reads_value =
     reads_behind (reads_open (operator (codes "="))) (reads_before right
-    (reads_made IsValue (λ x. record { function = x.0; value = x.1 }) (λ (v : Value). (v.function, v.value)) (λ _. refl) (λ _. refl)
+    (reads_made IsValue (λ x. record { function = x.0; value = x.1 }) (λ (v : Value). (v.function, v.value)) (λ _. refl) (λ _ _. refl)
     (λ a h. record { function = h.0; value = h.1 }) (λ v h. (h.function, h.value)) (reads_both reads_term reads_whole)))
 
 reads_domain_name : Reads IsName domain_name_then domain_name
@@ -119,6 +121,6 @@ reads_goal = reads_behind (reads_open (keyword (codes ":goal"))) (reads_before r
 pub reads_problem : Reads IsProblem problem_then problem
 unfolding problem
 reads_problem =
-    reads_made IsProblem (λ x. record { name = x.0; domain = x.1.0; values = x.1.1.0; goal = x.1.1.1 }) (λ (p : Problem). (p.name, (p.domain, (p.values, p.goal)))) (λ _. refl) (λ _. refl)
+    reads_made IsProblem (λ x. record { name = x.0; domain = x.1.0; values = x.1.1.0; goal = x.1.1.1 }) (λ (p : Problem). (p.name, (p.domain, (p.values, p.goal)))) (λ _. refl) (λ _ _. refl)
     (λ a h. record { name = h.0; domain = h.1.0; values = h.1.1.0; goal = h.1.1.1 }) (λ p h. (h.name, (h.domain, (h.values, h.goal))))
     (reads_both (reads_titled (codes "problem")) (reads_both reads_domain_name (reads_both reads_values (reads_before right reads_goal))))

@@ -8,10 +8,11 @@ use Rattle.np_syntax.specs.declared.syntax.Problem.{Problem}
 use Rattle.np_syntax.specs.declared.reading.refusal.Refusal.{Refusal}
 use Rattle.np_syntax.specs.declared.reading.refusal.Refusal.TheVariants.{NotBuilt, Memory}
 use Rattle.np_syntax.specs.ReadingAnswers.{Gives}
-use Rattle.np_syntax.specs.Syntax.{Printed, SpellsDomain, SpellsProblem}
-use Rattle.np_syntax.specs.ReadingSteps.{Outcome, Reader, alone, whole_text}
+use Rattle.np_syntax.specs.Syntax.{SpellsDomain, SpellsProblem}
+use Rattle.np_lex.specs.Printers.{Printed}
+use Rattle.np_lex.specs.Readers.{Outcome, Reader, alone, whole_text}
 use Rattle.np_syntax.specs.ReadingForm as form
-use Rattle.np_syntax.proofs.ReadingLaws.{Took, Reads, gets}
+use Rattle.np_lex.proofs.ReaderLaws.{Took, Reads, gets}
 use Rattle.np_syntax.proofs.ReadingForms.{reads_domain, reads_problem}
 
 -- ---- pieces and lexemes

@@ -12,9 +12,10 @@ use Rattle.np_lex.specs.declared.token.Kind.TheVariants.{Name, Number}
 use Rattle.np_syntax.specs.declared.syntax.Whole.{Whole}
 use Rattle.np_syntax.specs.Syntax.{reserved, IsName, IsWhole, text_of_whole}
 use Rattle.np_syntax.specs.Syntax as printed
-use Rattle.np_syntax.specs.ReadingSteps.{Outcome, and_then, same_kind, expect}
-use Rattle.np_syntax.specs.ReadingForm.{named, is_reserved, name, whole_with, signed_whole, in_front, whole, increase_or, direction}
-use Rattle.np_syntax.proofs.ReadingLaws.{Gets, Took, Reads, IsAny, then_at, same_kind_true, both_true, reads_expect}
+use Rattle.np_lex.specs.Readers.{Outcome, and_then, same_kind, expect}
+use Rattle.np_syntax.specs.ReadingForm.{is_reserved, name, whole_with, signed_whole, in_front, whole, increase_or, direction}
+use Rattle.np_lex.specs.Tokens.{named}
+use Rattle.np_lex.proofs.ReaderLaws.{Gets, Took, Reads, IsAny, then_at, same_kind_true, both_true, reads_expect}
 
 -- ---- names
 

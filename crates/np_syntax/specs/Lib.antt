@@ -1,4 +1,3 @@
 pub mod ReadingAnswers
 pub mod ReadingForm
-pub mod ReadingSteps
 pub mod Syntax

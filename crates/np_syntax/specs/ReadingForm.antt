@@ -2,7 +2,7 @@
 use Rattle.std.specs.Prelude.{ℕ, Bool, true, false, not, ◌==◌, ◌&&◌, nat_le, List, [], ◌∷◌, length, Option, None, Some, codes, bytes_eq, if◌then◌else◌}
 use Rattle.std.specs.List.{list_any, list_all}
 use Rattle.std.specs.Char.{is_ascii_digit}
-use Rattle.np_lex.specs.Tokens.{Lexeme, Piece}
+use Rattle.np_lex.specs.Tokens.{Lexeme, Piece, named}
 use Rattle.np_lex.specs.declared.token.Kind.TheVariants.{Name, Keyword, Number, Op}
 use Rattle.np_syntax.specs.declared.syntax.Whole.{Whole}
 use Rattle.np_syntax.specs.declared.syntax.Test.{Test}
@@ -12,11 +12,8 @@ use Rattle.np_syntax.specs.declared.syntax.Domain.{Domain}
 use Rattle.np_syntax.specs.declared.syntax.Value.{Value}
 use Rattle.np_syntax.specs.declared.syntax.Problem.{Problem}
 use Rattle.np_syntax.specs.Syntax.{reserved}
-use Rattle.np_syntax.specs.ReadingSteps.{Outcome, Reader, and_then, same_kind, next, expect, left, right, open_with, behind, before, both, made, row}
-
--- a lexeme that is a word of the form
-abbrev pub named : List ℕ → Lexeme
-named text = record { kind = Name; text = text }
+use Rattle.np_lex.specs.Readers.{Outcome, Reader, and_then, same_kind, next, expect, open_with, behind, before, both, made, row}
+use Rattle.np_lex.specs.Tokens.{left, right}
 
 abbrev pub keyword : List ℕ → Lexeme
 keyword text = record { kind = Keyword; text = text }

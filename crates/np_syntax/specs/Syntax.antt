@@ -2,6 +2,7 @@
 use Rattle.std.specs.Prelude.{◌≡◌, ℕ, ◌≤◌, List, [], ◌∷◌, ◌++◌, length, All, Contains, Some, codes, if◌then◌else◌}
 use Rattle.std.specs.Char.{IsAsciiDigit}
 use Rattle.np_lex.specs.Tokens.{Lexeme, lexemes}
+use Rattle.np_lex.specs.Printers.{Printed, all}
 use Rattle.np_lex.specs.declared.token.Kind.TheVariants as kind
 use Rattle.np_syntax.specs.declared.syntax.Whole.{Whole}
 use Rattle.np_syntax.specs.declared.syntax.Test.{Test}
@@ -10,10 +11,6 @@ use Rattle.np_syntax.specs.declared.syntax.Action.{Action}
 use Rattle.np_syntax.specs.declared.syntax.Domain.{Domain}
 use Rattle.np_syntax.specs.declared.syntax.Value.{Value}
 use Rattle.np_syntax.specs.declared.syntax.Problem.{Problem}
-
--- what is printed, in front of what follows
-abbrev pub Printed : Type 0
-Printed = List Lexeme → List Lexeme
 
 abbrev pub left : Printed
 left rest = (record { kind = kind.Left; text = codes "(" }) ∷ rest
@@ -29,11 +26,6 @@ keyword text rest = (record { kind = kind.Keyword; text = text }) ∷ rest
 
 abbrev pub operator : List ℕ → Printed
 operator text rest = (record { kind = kind.Op; text = text }) ∷ rest
-
--- one after the other
-abbrev pub all : {A : Type 0} → (A → Printed) → List A → Printed
-all print [] rest = rest
-all print (x ∷ xs) rest = print x (all print xs rest)
 
 abbrev pub text_of_whole : Whole → List ℕ
 text_of_whole w = if w.negative then codes "-" ++ w.digits else w.digits

@@ -4,7 +4,7 @@ ghost use Rattle.std.specs.Prelude.{◌≡◌, ◌↔◌, [], IsTrue, IfOk, IsEr
 ghost use Rattle.np_lex.specs.Lexers.{pieces_left};
 ghost use Rattle.np_lex.specs.Tokens.{pieces};
 ghost use Rattle.np_syntax.specs.ReadingAnswers.{Gives};
-ghost use Rattle.np_syntax.specs.ReadingSteps as steps;
+ghost use Rattle.np_lex.specs.Readers as steps;
 ghost use Rattle.np_syntax.specs.ReadingForm as form;
 ghost use Rattle.np_syntax.specs.Syntax.{SpellsDomain, SpellsProblem};
 ghost use Rattle.np_syntax.specs.declared.syntax.Domain.{Domain};

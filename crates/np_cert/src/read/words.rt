@@ -7,7 +7,8 @@ ghost use Rattle.np_lex.specs.Tokens.{lower};
 ghost use Rattle.np_lex.specs.Lexers.{pieces_left};
 ghost use Rattle.np_cert.specs.Text.{most};
 ghost use Rattle.np_cert.specs.ReadingAnswers.{Gives};
-ghost use Rattle.np_cert.specs.ReadingSteps as steps;
+ghost use Rattle.np_lex.specs.Readers as steps;
+ghost use Rattle.np_lex.specs.Tokens as tokens;
 ghost use Rattle.np_cert.specs.ReadingForm as form;
 
 use super::fault::CertFault;
@@ -33,7 +34,7 @@ pub fn place_of_next(lexer: &Lexer<'_>) -> Place {
 /// Reads an opening bracket.
 #[inline(always)]
 fn left(lexer: &mut Lexer<'_>) -> Result<(), CertFault>
-    ensures { Gives (λ _. (tt, pieces_left lexer.new)) result (steps.expect steps.left (pieces_left lexer.old)) }
+    ensures { Gives (λ _. (tt, pieces_left lexer.new)) result (steps.expect tokens.left (pieces_left lexer.old)) }
 {
     if !lexer.take_left() {
         return Err(CertFault::At(place_of_next(lexer)));
@@ -44,7 +45,7 @@ fn left(lexer: &mut Lexer<'_>) -> Result<(), CertFault>
 /// Reads a closing bracket.
 #[inline(always)]
 pub fn right(lexer: &mut Lexer<'_>) -> Result<(), CertFault>
-    ensures { Gives (λ _. (tt, pieces_left lexer.new)) result (steps.expect steps.right (pieces_left lexer.old)) }
+    ensures { Gives (λ _. (tt, pieces_left lexer.new)) result (steps.expect tokens.right (pieces_left lexer.old)) }
 {
     if !lexer.take_right() {
         return Err(CertFault::At(place_of_next(lexer)));
@@ -57,7 +58,7 @@ pub fn right(lexer: &mut Lexer<'_>) -> Result<(), CertFault>
 pub fn name(lexer: &mut Lexer<'_>, text: &[u8]) -> Result<(), CertFault>
     requires name { IsTrue (is_name text.now) }
     requires small { lower text.now ≡ text.now }
-    ensures { Gives (λ _. (tt, pieces_left lexer.new)) result (steps.expect (form.named text.now) (pieces_left lexer.old)) }
+    ensures { Gives (λ _. (tt, pieces_left lexer.new)) result (steps.expect (tokens.named text.now) (pieces_left lexer.old)) }
 {
     if !lexer.take_name(text) {
         return Err(CertFault::At(place_of_next(lexer)));
@@ -70,7 +71,7 @@ pub fn name(lexer: &mut Lexer<'_>, text: &[u8]) -> Result<(), CertFault>
 pub fn open(lexer: &mut Lexer<'_>, text: &[u8]) -> Result<(), CertFault>
     requires name { IsTrue (is_name text.now) }
     requires small { lower text.now ≡ text.now }
-    ensures { Gives (λ _. (tt, pieces_left lexer.new)) result (steps.open_with (form.named text.now) (pieces_left lexer.old)) }
+    ensures { Gives (λ _. (tt, pieces_left lexer.new)) result (steps.open_with (tokens.named text.now) (pieces_left lexer.old)) }
 {
     left(lexer)?;
     name(lexer, text)
@@ -78,7 +79,7 @@ pub fn open(lexer: &mut Lexer<'_>, text: &[u8]) -> Result<(), CertFault>
 
 /// Reads a number with this text.
 pub fn numeral(lexer: &mut Lexer<'_>, text: &[u8]) -> Result<(), CertFault>
-    ensures { Gives (λ _. (tt, pieces_left lexer.new)) result (steps.expect (form.numeral text.now) (pieces_left lexer.old)) }
+    ensures { Gives (λ _. (tt, pieces_left lexer.new)) result (steps.expect (tokens.numeral text.now) (pieces_left lexer.old)) }
 {
     let before = *lexer;
     let Some(found) = lexer.take_number() else {

@@ -3,7 +3,7 @@
 ghost use Rattle.std.specs.Prelude.{◌≡◌};
 ghost use Rattle.np_lex.specs.Lexers.{pieces_left};
 ghost use Rattle.np_syntax.specs.ReadingAnswers.{Gives};
-ghost use Rattle.np_syntax.specs.ReadingSteps as steps;
+ghost use Rattle.np_lex.specs.Readers as steps;
 ghost use Rattle.np_syntax.specs.ReadingForm as form;
 
 use super::refusal::Refusal;

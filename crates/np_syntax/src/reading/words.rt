@@ -7,7 +7,8 @@ ghost use Rattle.std.specs.Option.{option_map};
 ghost use Rattle.np_lex.specs.Tokens.{lower};
 ghost use Rattle.np_lex.specs.Lexers.{pieces_left};
 ghost use Rattle.np_syntax.specs.ReadingAnswers.{Gives};
-ghost use Rattle.np_syntax.specs.ReadingSteps as steps;
+ghost use Rattle.np_lex.specs.Readers as steps;
+ghost use Rattle.np_lex.specs.Tokens as tokens;
 ghost use Rattle.np_syntax.specs.ReadingForm as form;
 
 use super::refusal::Refusal;
@@ -50,7 +51,7 @@ fn next(lexer: Lexer<'_>) -> Option<(Word<'_>, Lexer<'_>)>
 }
 
 /// The lexer behind this word, which is of small letters and read in any case, if it comes next.
-#[tactic(auto, unfolding(crate::specs::ReadingSteps::expect))]
+#[tactic(auto, unfolding(np_lex::specs::Readers::expect))]
 pub fn past<'a>(lexer: Lexer<'a>, kind: Kind, text: &[u8]) -> Option<Lexer<'a>>
     ensures { steps.expect (record { kind = kind; text = text.now }) (pieces_left lexer.entry)
         ≡ option_map (λ rest. (tt, pieces_left rest)) result }
@@ -84,21 +85,21 @@ pub fn open<'a>(lexer: Lexer<'a>, kind: Kind, text: &[u8]) -> Result<Lexer<'a>, 
 
 /// Reads an opening bracket.
 pub fn left(lexer: Lexer<'_>) -> Result<Lexer<'_>, Refusal>
-    ensures { Gives (λ l. (tt, pieces_left l)) result (steps.expect steps.left (pieces_left lexer.entry)) }
+    ensures { Gives (λ l. (tt, pieces_left l)) result (steps.expect tokens.left (pieces_left lexer.entry)) }
 {
     expect(lexer, Kind::Left, b"(")
 }
 
 /// Reads a closing bracket.
 pub fn right(lexer: Lexer<'_>) -> Result<Lexer<'_>, Refusal>
-    ensures { Gives (λ l. (tt, pieces_left l)) result (steps.expect steps.right (pieces_left lexer.entry)) }
+    ensures { Gives (λ l. (tt, pieces_left l)) result (steps.expect tokens.right (pieces_left lexer.entry)) }
 {
     expect(lexer, Kind::Right, b")")
 }
 
 /// The lexer behind a closing bracket, if one comes next.
 pub fn past_right(lexer: Lexer<'_>) -> Option<Lexer<'_>>
-    ensures { steps.expect steps.right (pieces_left lexer.entry) ≡ option_map (λ rest. (tt, pieces_left rest)) result }
+    ensures { steps.expect tokens.right (pieces_left lexer.entry) ≡ option_map (λ rest. (tt, pieces_left rest)) result }
 {
     past(lexer, Kind::Right, b")")
 }

@@ -1,6 +1,6 @@
 use Rattle.np_lex.specs.Tokens.{pieces}
 use Rattle.np_cert.specs.Text.{Spells}
-use Rattle.np_cert.specs.ReadingSteps.{whole_text}
+use Rattle.np_lex.specs.Readers.{whole_text}
 use Rattle.np_cert.specs.ReadingForm as form
 use Rattle.np_cert.proofs.ReadingTexts.{given_spelled, refused_unspelled, certificate_spelled, certificate_read}
 use Rattle.np_cert.proofs.Written.{only_of}

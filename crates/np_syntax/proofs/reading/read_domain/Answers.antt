@@ -1,6 +1,6 @@
 use Rattle.np_lex.specs.Tokens.{pieces}
 use Rattle.np_syntax.specs.Syntax.{SpellsDomain}
-use Rattle.np_syntax.specs.ReadingSteps.{whole_text}
+use Rattle.np_lex.specs.Readers.{whole_text}
 use Rattle.np_syntax.specs.ReadingForm as form
 use Rattle.np_syntax.proofs.ReadingTexts.{given_spelled, refused_unspelled, domain_spelled, domain_read, one_domain, only_given}
 use Rattle.np_syntax.proofs.reading.read_domain.Goals as goal

@@ -1,6 +1,6 @@
 use Rattle.np_lex.specs.Tokens.{pieces}
 use Rattle.np_syntax.specs.Syntax.{SpellsProblem}
-use Rattle.np_syntax.specs.ReadingSteps.{whole_text}
+use Rattle.np_lex.specs.Readers.{whole_text}
 use Rattle.np_syntax.specs.ReadingForm as form
 use Rattle.np_syntax.proofs.ReadingTexts.{given_spelled, refused_unspelled, problem_spelled, problem_read, one_problem, only_given}
 use Rattle.np_syntax.proofs.reading.read_problem.Goals as goal

@@ -1,6 +1,6 @@
 use Rattle.std.proofs.lemmas.Result.{err_from_is_err_and}
 use Rattle.np_lex.specs.Lexers.{pieces_left}
-use Rattle.np_cert.specs.ReadingSteps.{row}
+use Rattle.np_lex.specs.Readers.{row}
 use Rattle.np_cert.specs.ReadingForm.{entry}
 use Rattle.np_cert.proofs.ReadingForms.{reads_entry}
 use Rattle.np_cert.proofs.ReadingLexemes.{row_goes_on, row_refuses, row_done, row_shorter}

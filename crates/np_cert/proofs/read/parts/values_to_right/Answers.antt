@@ -4,7 +4,7 @@ use mir.Val.{SFits}
 use Rattle.std.proofs.lemmas.Int.{to_z-of_z}
 use Rattle.std.proofs.lemmas.Result.{err_from_is_err_and}
 use Rattle.np_lex.specs.Lexers.{pieces_left}
-use Rattle.np_cert.specs.ReadingSteps.{row}
+use Rattle.np_lex.specs.Readers.{row}
 use Rattle.np_cert.specs.ReadingForm.{integer}
 use Rattle.np_cert.proofs.ReadingNumbers.{reads_integer}
 use Rattle.np_cert.proofs.ReadingLexemes.{row_goes_on, row_refuses, row_done, row_shorter}

@@ -1,4 +1,4 @@
-use Rattle.np_cert.specs.ReadingSteps.{left}
+use Rattle.np_lex.specs.Tokens.{left}
 use Rattle.np_cert.proofs.ReadingLexemes.{is_taken, is_left}
 use Rattle.np_cert.proofs.read.words.left.Goals as goal
 

@@ -1,4 +1,4 @@
-use Rattle.np_cert.specs.ReadingForm.{named}
+use Rattle.np_lex.specs.Tokens.{named}
 use Rattle.np_cert.proofs.ReadingLexemes.{is_taken, is_left}
 use Rattle.np_cert.proofs.read.words.name.Goals as goal
 

@@ -1,6 +1,6 @@
 use Rattle.std.specs.Prelude.{codes}
 use Rattle.np_lex.specs.Lexers.{pieces_left}
-use Rattle.np_cert.specs.ReadingForm.{named}
+use Rattle.np_lex.specs.Tokens.{named}
 use Rattle.np_cert.proofs.ReadingLexemes.{is_taken, limit_none, limit_number, limit_other}
 use Rattle.np_cert.proofs.read.words.none_or_long.Goals as goal
 

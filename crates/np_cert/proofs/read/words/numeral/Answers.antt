@@ -1,7 +1,7 @@
 use Rattle.std.proofs.Common.{subst, sym, ◌∙◌, true≢false}
 use Rattle.np_lex.specs.Tokens.{lower}
 use Rattle.np_lex.specs.Lexers.{Takes}
-use Rattle.np_cert.specs.ReadingForm.{numeral}
+use Rattle.np_lex.specs.Tokens.{numeral}
 use Rattle.np_cert.proofs.ReadingLexemes.{is_taken, other_text, no_numeral}
 use Rattle.np_cert.proofs.read.words.numeral.Goals as goal
 

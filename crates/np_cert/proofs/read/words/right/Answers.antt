@@ -1,4 +1,4 @@
-use Rattle.np_cert.specs.ReadingSteps.{right}
+use Rattle.np_lex.specs.Tokens.{right}
 use Rattle.np_cert.proofs.ReadingLexemes.{is_taken, is_left}
 use Rattle.np_cert.proofs.read.words.right.Goals as goal
 

@@ -1,8 +1,8 @@
 use Rattle.std.proofs.Common.{◌≡◌, length}
 use Rattle.np_lex.specs.Lexers.{pieces_left}
-use Rattle.np_syntax.specs.ReadingSteps.{row}
+use Rattle.np_lex.specs.Readers.{row}
 use Rattle.np_syntax.specs.ReadingForm.{action}
-use Rattle.np_syntax.proofs.ReadingLaws.{with_front}
+use Rattle.np_lex.proofs.ReaderLaws.{with_front}
 use Rattle.np_syntax.proofs.reading.parts.actions_to_right.Given as goal
 
 abbrev pub invariant-row : goal.invariant-row

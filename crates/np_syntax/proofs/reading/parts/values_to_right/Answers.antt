@@ -1,8 +1,9 @@
 use Rattle.std.proofs.lemmas.Result.{err_from_is_err_and}
 use Rattle.np_lex.specs.Lexers.{pieces_left}
-use Rattle.np_syntax.specs.ReadingSteps.{row}
+use Rattle.np_lex.specs.Readers.{row}
 use Rattle.np_syntax.specs.ReadingForm.{value}
-use Rattle.np_syntax.proofs.ReadingLaws.{loop_goes_on, loop_done, loop_refuses, is_shorter}
+use Rattle.np_lex.proofs.ReaderLaws.{loop_goes_on, loop_done, is_shorter}
+use Rattle.np_syntax.proofs.ReadingLaws.{loop_refuses}
 use Rattle.np_syntax.proofs.ReadingForms.{reads_value}
 use Rattle.np_syntax.proofs.reading.parts.values_to_right.Goals as goal
 

@@ -1,6 +1,6 @@
 -- Readers of pieces, and how larger ones are made of smaller ones.
-use Rattle.std.specs.Prelude.{ℕ, zero, suc, Bool, true, false, ◌&&◌, List, [], ◌∷◌, length, Option, None, Some, codes, bytes_eq, if◌then◌else◌}
-use Rattle.np_lex.specs.Tokens.{Lexeme, Piece, word, bad}
+use Rattle.std.specs.Prelude.{ℕ, zero, suc, Bool, true, false, ◌&&◌, List, [], ◌∷◌, length, Option, None, Some, bytes_eq, if◌then◌else◌}
+use Rattle.np_lex.specs.Tokens.{Lexeme, Piece, word, bad, left, right}
 use Rattle.np_lex.specs.declared.token.Kind.{Kind}
 use Rattle.np_lex.specs.declared.token.Kind.TheVariants.{Left, Right, Name, Variable, Keyword, Colon, Number, Op}
 
@@ -45,12 +45,6 @@ wanted lexeme found pieces = if same_lexeme found lexeme then Some (tt, pieces) 
 -- this lexeme
 unfoldable pub expect : Lexeme → Reader (Unit {0})
 expect lexeme pieces = and_then (next pieces) (wanted lexeme)
-
-abbrev pub left : Lexeme
-left = record { kind = Left; text = codes "(" }
-
-abbrev pub right : Lexeme
-right = record { kind = Right; text = codes ")" }
 
 -- a bracket, and this lexeme behind it
 abbrev pub open_with : Lexeme → Reader (Unit {0})
