@@ -12,17 +12,19 @@ use Rattle.np_lex.specs.declared.token.Kind.TheVariants.{Left, Right, Name, Numb
 use Rattle.np_lex.specs.Blanks.{is_blank}
 use Rattle.np_lex.specs.FirstToken.{is_digit}
 use Rattle.np_lex.specs.LongestToken.{IsToken, is_name, is_digits}
-use Rattle.np_lex.specs.Tokens.{Lexeme, lower, word, pieces}
+use Rattle.np_lex.specs.Tokens.{Lexeme, lower}
+use Rattle.np_read.specs.Pieces.{word, pieces}
 use Rattle.np_lex.proofs.LongestLaw.{and_first, and_second, list_all-append}
-use Rattle.np_lex.proofs.Shifts.{pieces-step}
-use Rattle.np_lex.proofs.Pieces.{lexemes-pieces}
-use Rattle.np_lex.proofs.Printed.{Separates, pieces-token, pieces-blank, pieces-nil}
+use Rattle.np_read.proofs.Shifts.{pieces-step}
+use Rattle.np_read.proofs.Pieces.{lexemes-pieces}
+use Rattle.np_read.proofs.Printed.{Separates, pieces-token, pieces-blank, pieces-nil}
 use Rattle.np_cert.specs.declared.certificate.Limit.{Limit}
 use Rattle.np_cert.specs.declared.certificate.Limit.TheVariants as limit
 use Rattle.np_cert.specs.declared.certificate.Entry.{Entry}
 use Rattle.np_cert.specs.declared.certificate.Certificate.{Certificate}
 use Rattle.np_cert.specs.Text.{most, IsLimit, IsWrittenEntry, IsWritten, Spells, integer_text}
-use Rattle.np_lex.specs.Printers.{Printed, all}
+use Rattle.np_read.specs.Printers.{Printed, all}
+use Rattle.np_read.specs.Printers as printers
 use Rattle.np_cert.specs.Text as printed
 use Rattle.np_cert.specs.Layout.{limit_text, fact_text, value_text, entry_text, certificate_text}
 
@@ -36,28 +38,28 @@ pub record Shows (text : List ℕ) (ls : List Lexeme) : Type 0 where
 shows_nothing : Shows [] []
 shows_nothing = record { pieces_are = pieces-nil }
 
--- a blank in front adds no lexeme
+-- a leading blank adds no lexeme
 shows_blank : {rest : List ℕ} {ls : List Lexeme} (b : ℕ) → is_blank b ≡ true → Shows rest ls → Shows (b ∷ rest) ls
 shows_blank {rest} b blank e = record { pieces_are = pieces-blank b rest blank ∙ e.pieces_are }
 
--- a bracket may stand in front of anything
-shows_left : {rest : List ℕ} {ls : List Lexeme} → Shows rest ls → Shows (40 ∷ rest) (printed.left ls)
+-- a bracket may be before anything
+shows_left : {rest : List ℕ} {ls : List Lexeme} → Shows rest ls → Shows (40 ∷ rest) (printers.left ls)
 shows_left {rest} e = record {
   pieces_are = pieces-step (40 ∷ rest) ∙ ap (λ ps. word (record { kind = Left; text = codes "(" }) ∷ ps) e.pieces_are;
 }
 
-shows_right : {rest : List ℕ} {ls : List Lexeme} → Shows rest ls → Shows (41 ∷ rest) (printed.right ls)
+shows_right : {rest : List ℕ} {ls : List Lexeme} → Shows rest ls → Shows (41 ∷ rest) (printers.right ls)
 shows_right {rest} e = record {
   pieces_are = pieces-step (41 ∷ rest) ∙ ap (λ ps. word (record { kind = Right; text = codes ")" }) ∷ ps) e.pieces_are;
 }
 
--- a token without capitals, in front of what separates
+-- a token without capitals, before what separates
 shows_token : {rest : List ℕ} {ls : List Lexeme} (kind : Kind) (text : List ℕ) → IsToken kind text → lower text ≡ text → Shows rest ls → Separates rest → Shows (text ++ rest) ((record { kind = kind; text = text }) ∷ ls)
 shows_token {rest} kind text token small e separates = record {
   pieces_are = pieces-token kind text rest token separates ∙ (λ i. word (record { kind = kind; text = small i }) ∷ e.pieces_are i);
 }
 
-shows_word : {rest : List ℕ} {ls : List Lexeme} (text : List ℕ) → is_name text ≡ true → lower text ≡ text → Shows rest ls → Separates rest → Shows (text ++ rest) (printed.word text ls)
+shows_word : {rest : List ℕ} {ls : List Lexeme} (text : List ℕ) → is_name text ≡ true → lower text ≡ text → Shows rest ls → Separates rest → Shows (text ++ rest) (printers.name text ls)
 shows_word text name small e separates = shows_token Name text name small e separates
 
 -- ---- numbers
@@ -109,7 +111,7 @@ shows_limit limit.Absent small e separates = shows_word (codes "none") refl refl
 
 -- ---- lists
 
--- each text begins with what separates, and has its lexemes in front of those of what follows
+-- each text begins with what separates, and has its lexemes before those of what follows
 record IsShown {A : Type 0} (P : A → Type 0) (text : A → List ℕ) (print : A → Printed) : Type 0 where
   first : (a : A) (rest : List ℕ) → Separates (text a ++ rest)
   each : (a : A) (rest : List ℕ) (ls : List Lexeme) → P a → Shows rest ls → Separates rest → Shows (text a ++ rest) (print a ls)

@@ -11,15 +11,19 @@ use Rattle.std.proofs.lemmas.Str.Parse.{digit_from_value}
 use Rattle.std.proofs.lemmas.Fmt.{decimal_is_IsNumeral_wide, IsAscii-decimal_wide, parse-decimal_wide}
 use Rattle.std.proofs.lemmas.Bool.Decides.{nat_tests}
 use Rattle.std.proofs.lemmas.Slice.Eq.{bytes_eq-Decides}
-use Rattle.np_lex.specs.Tokens.{Lexeme, Piece, word, bad, lower}
+use Rattle.np_lex.specs.Tokens.{Lexeme, lower}
+use Rattle.np_lex.proofs.Digits.{lower_digits, lower_digits_back}
+use Rattle.np_read.specs.Pieces.{Piece, word, bad}
 use Rattle.np_lex.specs.declared.token.Kind.{Kind}
 use Rattle.np_lex.specs.declared.token.Kind.TheVariants.{Number}
 use Rattle.np_cert.specs.Text.{most, integer_text}
-use Rattle.np_lex.specs.Printers.{Printed}
+use Rattle.np_read.specs.Printers.{Printed}
 use Rattle.np_cert.specs.Text as printed
-use Rattle.np_lex.specs.Readers.{and_then, same_kind, next}
-use Rattle.np_cert.specs.ReadingForm.{natural_of, below_zero, integer_of, in_front, number_by, natural, integer}
-use Rattle.np_lex.proofs.ReaderLaws.{Gets, Took, Reads, same_kind_true}
+use Rattle.np_read.specs.Readers.{and_then, next, in_front, number_by}
+use Rattle.np_read.specs.Same.{same_kind}
+use Rattle.np_cert.specs.ReadingForm.{natural_of, below_zero, integer_of, natural, integer}
+use Rattle.np_read.proofs.ReaderLaws.{Gets, Took, Reads}
+use Rattle.np_read.proofs.Same.{same_kind_true}
 
 -- what holds of the value, where there is one
 abbrev pub IfThere : {A : Type 0} → (A → Type 0) → Option A → Type 0
@@ -199,24 +203,8 @@ reads_integer =
 
 -- ---- capital letters
 
-lower_same : (b : ℕ) → IsInRange 48 57 b → to_ascii_lowercase b ≡ b
-lower_same b h = grind (arith, nat_tests)
-
-lower_back : (b : ℕ) → IsInRange 48 57 (to_ascii_lowercase b) → to_ascii_lowercase b ≡ b
-lower_back b h = grind (arith, nat_tests)
-
 lower_minus : (b : ℕ) → eqb (to_ascii_lowercase b) 45 ≡ eqb b 45
 lower_minus b = grind (arith, nat_tests)
-
-digits_same : (text : List ℕ) → AllDigits 10 text → lower text ≡ text
-digits_same [] h = refl
-digits_same (b ∷ bs) h =
-    ap (λ (c : ℕ). c ∷ lower bs) (lower_same b (digit_from_value b h.0)) ∙ ap (λ (cs : List ℕ). b ∷ cs) (digits_same bs h.1)
-
-digits_back : (text : List ℕ) → AllDigits 10 (lower text) → lower text ≡ text
-digits_back [] h = refl
-digits_back (b ∷ bs) h =
-    ap (λ (c : ℕ). c ∷ lower bs) (lower_back b (digit_from_value (to_ascii_lowercase b) h.0)) ∙ ap (λ (cs : List ℕ). b ∷ cs) (digits_back bs h.1)
 
 module _ (bound : ℕ) (small : bound ≤ most) (text : List ℕ) where
   says_digits : (t : List ℕ) (n : ℕ) → SaysNatural bound t n → AllDigits 10 t
@@ -224,10 +212,10 @@ module _ (bound : ℕ) (small : bound ≤ most) (text : List ℕ) where
 
   lower_by : (a b : Option ℕ) → IfThere (SaysNatural bound (lower text)) a → IfThere (SaysNatural bound text) b → natural_of bound (lower text) ≡ a → natural_of bound text ≡ b → natural_of bound (lower text) ≡ natural_of bound text
   lower_by None None h k e f = e ∙ sym f
-  lower_by None (Some n) h k e f = ap (natural_of bound) (digits_same text (says_digits text n k))
-  lower_by (Some n) b h k e f = ap (natural_of bound) (digits_back text (says_digits (lower text) n h))
+  lower_by None (Some n) h k e f = ap (natural_of bound) (lower_digits text (says_digits text n k))
+  lower_by (Some n) b h k e f = ap (natural_of bound) (lower_digits_back text (says_digits (lower text) n h))
 
--- capital letters stand in no number
+-- no number has a capital letter
 pub natural_of_lower : (bound : ℕ) (text : List ℕ) → bound ≤ most → natural_of bound (lower text) ≡ natural_of bound text
 natural_of_lower bound text small =
     lower_by bound small text (natural_of bound (lower text)) (natural_of bound text) (natural_says bound (lower text)) (natural_says bound text) refl refl

@@ -1,5 +1,5 @@
--- The layout of printed certificates, this project's own: one space between tokens, none behind `(` and in front of `)`, and a line feed in place of the
--- space in front of the proofs, of the entries, and of each entry, and one at the end.
+-- The layout of printed certificates, this project's own: one space between tokens, none after `(` and before `)`, and a line feed in place of the
+-- space before the proofs, the entries, and each entry, and one at the end.
 use Rattle.std.specs.Prelude.{ℕ, ℤ, List, ◌++◌, codes, decimal}
 use Rattle.std.specs.List.{flat_map}
 use Rattle.np_cert.specs.declared.certificate.Limit.{Limit}

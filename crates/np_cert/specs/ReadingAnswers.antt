@@ -1,14 +1,14 @@
 -- What a reading function answers, beside what the pieces give.
-use Rattle.std.specs.Prelude.{◌≡◌, Option, None, Some, Result, Ok, Err}
+use Rattle.std.specs.Prelude.{Bool, true, false, Option, Result}
+use Rattle.np_read.specs.Answers as answers
 use Rattle.np_cert.specs.declared.read.fault.CertFault.{CertFault}
 use Rattle.np_cert.specs.declared.read.fault.CertFault.TheVariants.{At, Memory}
 
--- a fault, where nothing is there to be given, or memory ran out
-abbrev pub Refuses : {Y : Type 0} → CertFault → Option Y → Type 0
-Refuses (At place) there = there ≡ None
-Refuses Memory there = Unit {0}
+-- whether memory ran out
+abbrev pub is_memory : CertFault → Bool
+is_memory (At place) = false
+is_memory Memory = true
 
 -- the answer is what is there to be given, by how contracts see it, unless memory ran out
 abbrev pub Gives : {X Y : Type 0} → (X → Y) → Result X CertFault → Option Y → Type 0
-Gives view (Ok x) there = there ≡ Some (view x)
-Gives view (Err fault) there = Refuses fault there
+Gives view result there = answers.Gives is_memory view result there

@@ -2,15 +2,14 @@
 use Rattle.std.specs.Prelude.{ℕ, zero, suc, ◌^◌, ℤ, pos, negsuc, ◌==◌, ◌&&◌, nat_lt, List, [], ◌∷◌, Option, None, Some, codes, decimal, bytes_eq, if◌then◌else◌}
 use Rattle.std.specs.Option.{option_map}
 use Rattle.std.specs.Str.Parse.{digits_value}
-use Rattle.np_lex.specs.Tokens.{Lexeme, Piece, right, named, numeral}
-use Rattle.np_lex.specs.declared.token.Kind.TheVariants.{Number as NumberKind}
+use Rattle.np_lex.specs.Tokens.{right, named, numeral}
 use Rattle.np_cert.specs.declared.certificate.Limit.{Limit}
 use Rattle.np_cert.specs.declared.certificate.Limit.TheVariants.{Number, Absent}
 use Rattle.np_cert.specs.declared.certificate.Why.TheVariants.{Expanded}
 use Rattle.np_cert.specs.declared.certificate.Entry.{Entry}
 use Rattle.np_cert.specs.declared.certificate.Certificate.{Certificate}
 use Rattle.np_cert.specs.Text.{most}
-use Rattle.np_lex.specs.Readers.{Outcome, Reader, and_then, same_kind, next, expect, open_with, behind, before, both, made, row}
+use Rattle.np_read.specs.Readers.{Outcome, Reader, and_then, next, expect, number_by, open_with, after, before, both, made, row}
 
 -- the number below the bound that the text is the decimal of
 unfoldable pub natural_of : ℕ → List ℕ → Option ℕ
@@ -23,19 +22,10 @@ below_zero None = None
 below_zero (Some zero) = None
 below_zero (Some (suc n)) = Some (negsuc n)
 
--- the number that the text says, with `-` in front where it is below 0
+-- the number that the text says: after `-` one below 0
 unfoldable pub integer_of : List ℕ → Option ℤ
 integer_of [] = None
 integer_of (first ∷ digits) = if first == 45 then below_zero (natural_of most digits) else option_map pos (natural_of most (first ∷ digits))
-
--- the value with what stands behind it
-abbrev pub in_front : {A : Type 0} → Option A → List Piece → Outcome A
-in_front None rest = None
-in_front (Some a) rest = Some (a, rest)
-
--- the lexeme as what its text says, where it is a number
-abbrev pub number_by : {A : Type 0} → (List ℕ → Option A) → Lexeme → Reader A
-number_by value lexeme rest = if same_kind lexeme.kind NumberKind then in_front (value lexeme.text) rest else None
 
 unfoldable pub natural : ℕ → Reader ℕ
 natural bound pieces = and_then (next pieces) (number_by (natural_of bound))
@@ -54,32 +44,32 @@ limit pieces = none_or (expect (named (codes "none")) pieces) (made (λ n. Numbe
 
 -- (facts fact ..)
 unfoldable pub facts : Reader (List ℕ)
-facts = behind (open_with (named (codes "facts"))) (row (natural (2 ^ 32)))
+facts = after (open_with (named (codes "facts"))) (row (natural (2 ^ 32)))
 
 -- (values value ..)
 unfoldable pub values : Reader (List ℤ)
-values = behind (open_with (named (codes "values"))) (row integer)
+values = after (open_with (named (codes "values"))) (row integer)
 
 -- (entry facts values bound expanded)
 unfoldable pub entry : Reader Entry
 entry =
-    behind (open_with (named (codes "entry"))) (before (made (λ x. record { state = record { facts = x.0; values = x.1.0 }; bound = x.1.1; why = Expanded })
+    after (open_with (named (codes "entry"))) (before (made (λ x. record { state = record { facts = x.0; values = x.1.0 }; bound = x.1.1; why = Expanded })
     (both facts (both values (before limit (named (codes "expanded")))))) right)
 
 -- (claim limit)
 unfoldable pub claim : Reader Limit
-claim = behind (open_with (named (codes "claim"))) (before limit right)
+claim = after (open_with (named (codes "claim"))) (before limit right)
 
 -- (proofs)
 unfoldable pub no_proofs : Reader (Unit {0})
-no_proofs = behind (open_with (named (codes "proofs"))) (expect right)
+no_proofs = after (open_with (named (codes "proofs"))) (expect right)
 
 -- (entries entry ..)
 unfoldable pub entries : Reader (List Entry)
-entries = behind (open_with (named (codes "entries"))) (row entry)
+entries = after (open_with (named (codes "entries"))) (row entry)
 
 -- (certificate 1 claim proofs entries)
 unfoldable pub certificate : Reader Certificate
 certificate =
-    behind (open_with (named (codes "certificate"))) (behind (expect (numeral (codes "1")))
-    (before (made (λ x. record { claim = x.0; proofs = []; entries = x.1 }) (both claim (behind no_proofs entries))) right))
+    after (open_with (named (codes "certificate"))) (after (expect (numeral (codes "1")))
+    (before (made (λ x. record { claim = x.0; proofs = []; entries = x.1 }) (both claim (after no_proofs entries))) right))

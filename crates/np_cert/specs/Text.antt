@@ -1,32 +1,21 @@
 -- The text of certificates of the thin form: each has one list of lexemes, and bytes spell it where theirs are these. The format is this
 -- project's own.
-use Rattle.std.specs.Prelude.{◌≡◌, ℕ, ◌^◌, ◌<◌, ℤ, pos, negsuc, suc, unsigned_abs, ⊤, List, [], ◌∷◌, ◌++◌, All, Some, codes, decimal}
-use Rattle.np_lex.specs.Tokens.{Lexeme, lexemes}
-use Rattle.np_lex.specs.Printers.{Printed, all}
-use Rattle.np_lex.specs.declared.token.Kind.TheVariants as kind
+use Rattle.std.specs.Prelude.{◌≡◌, ℕ, ◌^◌, ◌<◌, ℤ, pos, negsuc, suc, unsigned_abs, ⊤, List, [], ◌++◌, All, Some, codes, decimal}
+use Rattle.np_lex.specs.Tokens.{Lexeme}
+use Rattle.np_read.specs.Lexemes.{lexemes}
+use Rattle.np_read.specs.Printers.{Printed, all, left, right, name, number}
+use Rattle.np_cert.specs.declared.read.words.TheConstants.{MOST}
 use Rattle.np_cert.specs.declared.certificate.Limit.{Limit}
 use Rattle.np_cert.specs.declared.certificate.Limit.TheVariants.{Number, Absent}
 use Rattle.np_cert.specs.declared.certificate.Why.TheVariants as why
 use Rattle.np_cert.specs.declared.certificate.Entry.{Entry}
 use Rattle.np_cert.specs.declared.certificate.Certificate.{Certificate}
 
-abbrev pub left : Printed
-left rest = (record { kind = kind.Left; text = codes "(" }) ∷ rest
-
-abbrev pub right : Printed
-right rest = (record { kind = kind.Right; text = codes ")" }) ∷ rest
-
-abbrev pub word : List ℕ → Printed
-word text rest = (record { kind = kind.Name; text = text }) ∷ rest
-
-abbrev pub number : List ℕ → Printed
-number text rest = (record { kind = kind.Number; text = text }) ∷ rest
-
 -- a number without sign, and without a leading zero other than 0 itself
 abbrev pub natural : ℕ → Printed
 natural n = number (decimal n)
 
--- such a number, or one above 0 with `-` in front
+-- such a number, or one above 0 after `-`
 abbrev pub integer_text : ℤ → List ℕ
 integer_text (pos n) = decimal n
 integer_text (negsuc n) = codes "-" ++ decimal (suc n)
@@ -37,27 +26,27 @@ integer n = number (integer_text n)
 -- a number, or `none`
 abbrev pub limit : Limit → Printed
 limit (Number n) = natural n
-limit Absent = word (codes "none")
+limit Absent = name (codes "none")
 
 -- (entry (facts fact ..) (values value ..) bound expanded)
 abbrev pub entry : Entry → Printed
 entry e rest =
-    left (word (codes "entry")
-    (left (word (codes "facts") (all natural e.state.facts (right
-    (left (word (codes "values") (all integer e.state.values (right
-    (limit e.bound (word (codes "expanded") (right rest))))))))))))
+    left (name (codes "entry")
+    (left (name (codes "facts") (all natural e.state.facts (right
+    (left (name (codes "values") (all integer e.state.values (right
+    (limit e.bound (name (codes "expanded") (right rest))))))))))))
 
 -- (certificate 1 (claim limit) (proofs) (entries entry ..))
 abbrev pub certificate : Certificate → List Lexeme
 certificate c =
-    left (word (codes "certificate") (natural 1
-    (left (word (codes "claim") (limit c.claim (right
-    (left (word (codes "proofs") (right
-    (left (word (codes "entries") (all entry c.entries (right (right []))))))))))))))
+    left (name (codes "certificate") (natural 1
+    (left (name (codes "claim") (limit c.claim (right
+    (left (name (codes "proofs") (right
+    (left (name (codes "entries") (all entry c.entries (right (right []))))))))))))))
 
 -- a number of the text is below 10^38 in size
 abbrev pub most : ℕ
-most = 10 ^ 38
+most = MOST
 
 abbrev pub IsLimit : Limit → Type 0
 IsLimit (Number n) = n < most

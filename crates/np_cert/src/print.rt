@@ -33,7 +33,7 @@ fn push_entries(text: &mut Vec<u8>, entries: &[Entry]) -> Result<(), AllocError>
     Ok(())
 }
 
-/// Adds an entry by expansion, with the line feed in front of it.
+/// Adds an entry by expansion, after its line feed.
 fn push_entry(text: &mut Vec<u8>, entry: &Entry) -> Result<(), AllocError>
     ensures { OnOk result (text.new.items ≡ text.old.items ++ entry_text entry.now) }
 {
@@ -46,7 +46,7 @@ fn push_entry(text: &mut Vec<u8>, entry: &Entry) -> Result<(), AllocError>
     text.extend_from_slice(b" expanded)")
 }
 
-/// Adds the numbers of facts, each with a space in front.
+/// Adds the numbers of facts, each after a space.
 fn push_facts(text: &mut Vec<u8>, facts: &[u32]) -> Result<(), AllocError>
     ensures { OnOk result (text.new.items ≡ text.old.items ++ flat_map fact_text facts.now) }
 {
@@ -56,7 +56,7 @@ fn push_facts(text: &mut Vec<u8>, facts: &[u32]) -> Result<(), AllocError>
     Ok(())
 }
 
-/// Adds the number of a fact, with a space in front.
+/// Adds the number of a fact, after a space.
 fn push_fact(text: &mut Vec<u8>, fact: u32) -> Result<(), AllocError>
     ensures { OnOk result (text.new.items ≡ text.old.items ++ fact_text fact) }
 {
@@ -65,7 +65,7 @@ fn push_fact(text: &mut Vec<u8>, fact: u32) -> Result<(), AllocError>
     text.extend_from_slice(buffer.format(fact).as_bytes())
 }
 
-/// Adds scaled values, each with a space in front.
+/// Adds scaled values, each after a space.
 fn push_values(text: &mut Vec<u8>, values: &[i128]) -> Result<(), AllocError>
     ensures { OnOk result (text.new.items ≡ text.old.items ++ flat_map value_text values.now) }
 {
@@ -75,7 +75,7 @@ fn push_values(text: &mut Vec<u8>, values: &[i128]) -> Result<(), AllocError>
     Ok(())
 }
 
-/// Adds a scaled value, with a space in front.
+/// Adds a scaled value, after a space.
 fn push_value(text: &mut Vec<u8>, value: i128) -> Result<(), AllocError>
     ensures { OnOk result (text.new.items ≡ text.old.items ++ value_text value) }
 {
@@ -94,6 +94,3 @@ fn push_limit(text: &mut Vec<u8>, limit: Limit) -> Result<(), AllocError>
         Limit::Absent => text.extend_from_slice(b"none"),
     }
 }
-
-#[cfg(test)]
-mod tests;

@@ -1,11 +1,11 @@
 //! Reading a certificate of the thin form.
 
-ghost use Rattle.std.specs.Prelude.{◌≡◌, ◌↔◌, [], IsTrue, IfOk, IsErrOf};
-ghost use Rattle.np_lex.specs.Lexers.{pieces_left};
-ghost use Rattle.np_lex.specs.Tokens.{pieces};
+ghost use Rattle.std.specs.Prelude.{◌≡◌, IfOk, IsErrOf};
+ghost use Rattle.np_read.specs.Pieces.{pieces_left};
+ghost use Rattle.np_read.specs.Pieces.{pieces};
 ghost use Rattle.np_lex.specs.declared.token.Place.{Place};
 ghost use Rattle.np_cert.specs.ReadingAnswers.{Gives};
-ghost use Rattle.np_lex.specs.Readers as steps;
+ghost use Rattle.np_read.specs.Readers as steps;
 ghost use Rattle.np_cert.specs.ReadingForm as form;
 ghost use Rattle.np_cert.specs.Text.{Spells};
 ghost use Rattle.np_cert.specs.declared.certificate.Certificate.{Certificate};
@@ -17,13 +17,11 @@ mod words;
 use crate::certificate::Certificate;
 pub use fault::CertFault;
 use np_lex::Lexer;
+use np_read::is_at_end;
 use parts::{claim, entries, no_proofs};
 use sqlite_items::Items;
 use std::alloc::Global;
-use words::{numeral, open, place_of_next, right};
-
-#[cfg(test)]
-mod tests;
+use words::{numeral, open, right};
 
 /// Reads `(certificate 1 (claim limit) (proofs) (entries entry ..))`.
 #[tactic(auto, unfolding(crate::specs::ReadingForm::certificate))]
@@ -43,22 +41,15 @@ fn certificate(alloc: Global, lexer: &mut Lexer<'_>) -> Result<Certificate, Cert
     })
 }
 
-/// Whether nothing is left of the text but blanks and comments.
-fn is_at_end(lexer: &Lexer<'_>) -> bool
-    ensures { IsTrue result ↔ (pieces_left lexer.now ≡ []) }
-{
-    let mut rest = *lexer;
-    matches!(rest.next(), Ok(None))
-}
-
-/// Reads a certificate, and nothing behind it.
+/// Reads a certificate, and nothing after it.
+#[tactic(auto, using(np_read::proofs::Pieces::pieces_at_start))]
 fn whole_certificate(alloc: Global, bytes: &[u8]) -> Result<Certificate, CertFault>
     ensures { Gives (λ certificate. certificate) result (steps.whole_text (form.certificate (pieces bytes.now))) }
 {
     let mut lexer = Lexer::new(bytes);
     let certificate = certificate(alloc, &mut lexer)?;
     if !is_at_end(&lexer) {
-        return Err(CertFault::At(place_of_next(&lexer)));
+        return Err(CertFault::At(lexer.place()));
     }
     Ok(certificate)
 }

@@ -17,7 +17,7 @@ none_from least limit = record {
 pub all_from : (limit : ℕ) (numbers : List ℕ) → AreNumbers limit numbers → AreFrom 0 limit numbers
 all_from limit numbers h = record { numbers = h; late = λ k d lt. omega arith }
 
--- one more in front
+-- one more at the front
 pub one_from : (least limit n : ℕ) (ns : List ℕ) → least ≤ n → n < limit → AreFrom (n + 1) limit ns → AreFrom least limit (n ∷ ns)
 one_from least limit n ns late within h = record {
   numbers = record { ascending = ascending; within = All-cons (λ n. n < limit) n ns within h.numbers.within };

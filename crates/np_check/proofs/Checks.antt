@@ -13,7 +13,7 @@ use Rattle.np_cert.specs.Valid.{at_most, after_cost, bound_at, IsExpanded}
 use Rattle.np_check.specs.Steps.{IsBounded}
 
 module _ (task : Parts) (entries : List Entry) (e : Entry) where
-  -- one step that may be taken
+  -- one applicable step
   pub bounded_step : (n : ℕ) (step : FlatStep) (after : FlatState) (good : Bool) → slice_get task.steps n ≡ Some step → next task n e.state ≡ Some after
       → good ≡ at_most e.bound (after_cost step.cost (bound_at entries after)) → IsTrue good ↔ IsBounded task entries e n
   bounded_step n step after good there leads is =

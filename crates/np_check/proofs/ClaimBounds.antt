@@ -9,9 +9,12 @@ use Rattle.np_flat.specs.States.{is_goal, next}
 use Rattle.np_flat.specs.Plans.{cost_of, cost_sum, run_from, Leads}
 use Rattle.np_cert.specs.declared.certificate.Limit.{Limit}
 use Rattle.np_cert.specs.declared.certificate.Limit.TheVariants.{Number, Absent}
+use Rattle.np_count.specs.declared.proof.Proof.{Proof}
+use Rattle.np_cert.specs.declared.certificate.Why.{Why}
+use Rattle.np_cert.specs.declared.certificate.Why.TheVariants as why
 use Rattle.np_cert.specs.declared.certificate.Entry.{Entry}
 use Rattle.np_cert.specs.declared.certificate.Certificate.{Certificate}
-use Rattle.np_cert.specs.Valid.{at_most, after_cost, bound_at, IsJustified, IsExpanded, IsValid}
+use Rattle.np_cert.specs.Valid.{at_most, after_cost, bound_at, Supports, IsJustified, IsExpanded, IsValid}
 use Rattle.np_check.specs.Bounds.{Bounds}
 
 -- 0 is at most every limit that is a number
@@ -30,7 +33,7 @@ pub at_most_cost : (cost : ℕ) (b : Limit) (n : ℕ) → IsTrue (at_most b (Num
 at_most_cost cost (Number y) n p = le-leb (cost + y) (cost + n) (omega (arith, leb-true y n p))
 at_most_cost cost Absent n p = p
 
-module _ (task : Parts) (entries : List Entry) where
+module _ (task : Parts) (proofs : List Proof) (entries : List Entry) where
   -- the bound of a state leans on the bounds of the states after it
   pub record LeansOn (s : FlatState) (bound : Limit) : Type 0 where
     pub no_goal : is_goal task s ≡ false
@@ -39,16 +42,23 @@ module _ (task : Parts) (entries : List Entry) where
   leans : (e : Entry) (s : FlatState) → e.state ≡ s → IsExpanded task entries e → LeansOn s e.bound
   leans e s same h = subst (λ t. LeansOn t e.bound) same (record { no_goal = h.no_goal; steps = h.steps })
 
+  -- a bound that a reason supports is 0, or leans on others
+  supported : (e : Entry) (s : FlatState) → e.state ≡ s → (w : Why) → Supports task proofs entries e w → (e.bound ≡ Number 0) ⊎ LeansOn s e.bound
+  supported e s same why.Expanded (inl zero) = inl zero
+  supported e s same why.Expanded (inr h) = inr (leans e s same h)
+  supported e s same (why.Proof number) h = absurd h
+  supported e s same (why.Table numbers) h = absurd h
+
   -- the bound of a state is 0 or leans on others, where entries are justified
-  bound_is : (es : List Entry) (s : FlatState) → All (IsJustified task entries) es → (bound_at es s ≡ Number 0) ⊎ LeansOn s (bound_at es s)
+  bound_is : (es : List Entry) (s : FlatState) → All (IsJustified task proofs entries) es → (bound_at es s ≡ Number 0) ⊎ LeansOn s (bound_at es s)
   bound_is [] s all = inl refl
   bound_is (e ∷ es) s all =
-      by (same_state e.state s) refl (All-head (IsJustified task entries) e es all) (bound_is es s (All-tail (IsJustified task entries) e es all))
+      by (same_state e.state s) refl (All-head (IsJustified task proofs entries) e es all) (bound_is es s (All-tail (IsJustified task proofs entries) e es all))
     where
-      by : (b : Bool) → same_state e.state s ≡ b → IsJustified task entries e → (bound_at es s ≡ Number 0) ⊎ LeansOn s (bound_at es s)
+      by : (b : Bool) → same_state e.state s ≡ b → IsJustified task proofs entries e → (bound_at es s ≡ Number 0) ⊎ LeansOn s (bound_at es s)
           → ((if b then e.bound else bound_at es s) ≡ Number 0) ⊎ LeansOn s (if b then e.bound else bound_at es s)
       by true same justified rest =
-          elim justified.bounded [ inl zero ↦ inl zero | inr h ↦ inr (leans e s ((same_state-Decides e.state s).0 same) h) ]
+          supported e s ((same_state-Decides e.state s).0 same) e.why justified.supported
       by false other justified rest = rest
 
   -- a bound that is 0 is at most every number
@@ -56,7 +66,7 @@ module _ (task : Parts) (entries : List Entry) where
   from_zero bound n zero = subst (λ (b : Limit). IsTrue (at_most b (Number n))) (sym zero) (least n)
 
   -- the bound of a state is at most what each list of steps from there to the goal costs
-  pub bound_at_most : All (IsJustified task entries) entries → (numbers : List ℕ) (s : FlatState) → Leads task s numbers → IsTrue (at_most (bound_at entries s) (Number (cost_sum task numbers)))
+  pub bound_at_most : All (IsJustified task proofs entries) entries → (numbers : List ℕ) (s : FlatState) → Leads task s numbers → IsTrue (at_most (bound_at entries s) (Number (cost_sum task numbers)))
   bound_at_most all [] s leads =
       elim (bound_is entries s all) [
         | inl zero ↦ from_zero (bound_at entries s) 0 zero
@@ -79,4 +89,4 @@ module _ (task : Parts) (entries : List Entry) where
 -- a valid certificate's claim bounds every plan
 pub claim_bounds : (task : Parts) (c : Certificate) → IsValid task c → Bounds task c.claim
 claim_bounds task c valid numbers leads =
-    at_most_trans c.claim (bound_at c.entries task.start) (cost_sum task numbers) valid.claimed.bounded (bound_at_most task c.entries valid.justified numbers task.start leads)
+    at_most_trans c.claim (bound_at c.entries task.start) (cost_sum task numbers) valid.claimed.bounded (bound_at_most task c.proofs c.entries valid.justified numbers task.start leads)

@@ -6,7 +6,6 @@ use Rattle.std.proofs.lemmas.Option.{same_Some, slice_get_within, slice_get-get_
 use Rattle.np_flat.specs.declared.parts.Parts.{Parts}
 use Rattle.np_cert.specs.declared.certificate.Entry.{Entry}
 use Rattle.np_cert.specs.declared.certificate.Certificate.{Certificate}
-use Rattle.np_cert.specs.Text.{IsThin}
 use Rattle.np_cert.specs.Valid.{at_most, bound_at, is_small, IsJustified, IsRepeated, IsValid}
 use Rattle.np_check.specs.First.{HasNone, IsFirst}
 use Rattle.np_check.specs.Verdicts.{AreGood}
@@ -29,20 +28,21 @@ once_first entries n e found there said is r =
     first.earlier r.earlier r.first (omega arith) r.before r.first_is (r.same ∙ ap (λ (x : Entry). x.state) (same_Some r.second e (sym r.second_is ∙ there)))
 
 -- one more good entry
-pub good_more : (task : Parts) (entries : List Entry) (n : ℕ) (e : Entry) → slice_get entries n ≡ Some e → AreGood task entries n → (IsRepeated entries n → ⊥) → IsJustified task entries e → AreGood task entries (n + 1)
-good_more task entries n e there before once justified = record {
-  distinct = λ m lt. elim (cases_eq m n) [ inl at ↦ (λ r. once (subst (IsRepeated entries) at r)) | inr apart ↦ before.distinct m (omega arith) ];
+pub good_more : (task : Parts) (c : Certificate) (n : ℕ) (e : Entry) → slice_get c.entries n ≡ Some e → AreGood task c n → (IsRepeated c.entries n → ⊥) → IsJustified task c.proofs c.entries e → AreGood task c (n + 1)
+good_more task c n e there before once justified = record {
+  proofs = before.proofs;
+  distinct = λ m lt. elim (cases_eq m n) [ inl at ↦ (λ r. once (subst (IsRepeated c.entries) at r)) | inr apart ↦ before.distinct m (omega arith) ];
   justified = λ m x lt is. elim (cases_eq m n) [
-    | inl at ↦ subst (IsJustified task entries) (same_Some e x (sym there ∙ (ap (slice_get entries) (sym at) ∙ is))) justified
+    | inl at ↦ subst (IsJustified task c.proofs c.entries) (same_Some e x (sym there ∙ (ap (slice_get c.entries) (sym at) ∙ is))) justified
     | inr apart ↦ before.justified m x (omega arith) is
   ];
 }
 
 -- a certificate of good entries, whose claim holds, is valid
-pub valid_is : (task : Parts) (c : Certificate) (entries : List Entry) → IsThin c → entries ≡ c.entries → AreGood task c.entries (length c.entries)
+pub valid_is : (task : Parts) (c : Certificate) (entries : List Entry) → entries ≡ c.entries → AreGood task c (length c.entries)
     → (IsTrue (is_small c.claim) × IsTrue (at_most c.claim (bound_at entries task.start))) → IsValid task c
-valid_is task c entries thin same good claimed = record {
-  no_proofs = thin.no_proofs;
+valid_is task c entries same good claimed = record {
+  proofs = good.proofs;
   distinct = λ n r. good.distinct n (within n r) r;
   justified = λ n d lt. good.justified n (get_or c.entries n d) lt (slice_get-get_or c.entries n d lt);
   claimed = record { small = claimed.0; bounded = subst (λ es. IsTrue (at_most c.claim (bound_at es task.start))) same claimed.1 };

@@ -4,4 +4,3 @@ pub mod Ascending
 pub mod LookUps
 pub mod Checks
 pub mod Faults
-pub mod Counting

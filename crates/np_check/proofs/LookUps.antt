@@ -18,7 +18,7 @@ abbrev pub Says : List Entry → FlatState → ℕ → Option ℕ → Type 0
 Says entries s from found = MatchOption found (HasNone entries s from (length entries)) (IsFirst entries s from)
 
 module _ (entries : List Entry) (from : ℕ) (e : Entry) (there : slice_get entries from ≡ Some e) where
-  -- one more entry in front, of another state
+  -- one more entry at the front, of another state
   none_more : (s : FlatState) (below : ℕ) → (e.state ≡ s → ⊥) → HasNone entries s (from + 1) below → HasNone entries s from below
   none_more s below other none n x late lt is same =
       elim (cases_eq n from) [
@@ -49,7 +49,7 @@ first_none numbers entries from empty past q =
     subst (λ (es : List (Bor FlatState × ℕ)). Says entries q.now from (lookup (λ (y : Bor FlatState). same_state q.now y.now) es)) (sym empty)
     (λ n e late lt is same. omega arith)
 
--- one more entry in front
+-- one more entry at the front
 pub first_more : {S : Type 0} (old new : HashMap (Bor FlatState) ℕ S) (entries : List Entry) (from next : ℕ) (e : Entry) → from + 1 ≡ next → slice_get entries from ≡ Some e
     → ((q : Bor FlatState) → get (λ x y. same_state x.now y.now) new q ≡ cond (same_state e.state q.now) (Some from) (get (λ x y. same_state x.now y.now) old q))
     → AreFirst old entries next → AreFirst new entries from
@@ -85,7 +85,7 @@ bound_none (x ∷ xs) s none =
 pub distinct_none : (entries : List Entry) (from : ℕ) → length entries ≤ from → AreDistinct entries from
 distinct_none entries from past n e late there m x later within is same = omega arith
 
--- nor do one more entry in front, of a state that none behind it has, and the others
+-- nor do one more entry at the front, of a state that none after it has, and the others
 pub distinct_more : (entries : List Entry) (from next : ℕ) (e : Entry) → from + 1 ≡ next → slice_get entries from ≡ Some e → HasNone entries e.state next (length entries) → AreDistinct entries next → AreDistinct entries from
 distinct_more entries from next e one there none before n x late is =
     elim (cases_eq n from) [
@@ -112,7 +112,7 @@ distinct_first entries n s distinct has = by (slice_get entries n) refl has
           earlier = λ m y late lt there_too alike. distinct m y (omega arith) there_too n x (omega arith) (slice_get_within entries n x there) there (same ∙ sym alike);
         }
 
--- where no two have the same state, and a look-up of one more state in front finds none
+-- where no two have the same state, and a look-up of one more state at the front finds none
 pub once_more : {S : Type 0} (old : HashMap (Bor FlatState) ℕ S) (entries : List Entry) (from next : ℕ) (e : Entry) (q : Bor FlatState) (found : Option ℕ) (distinct none : Bool) → from + 1 ≡ next → slice_get entries from ≡ Some e → found ≡ get (λ x y. same_state x.now y.now) old q
     → q.now ≡ e.state → is_some found ≡ not none → AreFirst old entries next → (IsTrue distinct → AreDistinct entries next) → IsTrue (distinct && none) → AreDistinct entries from
 once_more old entries from next e q None true true one there found key is before distinct both =

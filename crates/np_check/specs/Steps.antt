@@ -7,6 +7,6 @@ use Rattle.np_flat.specs.Plans.{cost_of}
 use Rattle.np_cert.specs.declared.certificate.Entry.{Entry}
 use Rattle.np_cert.specs.Valid.{at_most, after_cost, bound_at}
 
--- where the step of this number may be taken, the bound of an entry is at most its cost with the bound of the state after it
+-- where the step of this number is applicable, the bound of an entry is at most its cost with the bound of the state after it
 abbrev pub IsBounded : Parts → List Entry → Entry → ℕ → Type 0
 IsBounded task entries e n = (after : FlatState) → next task n e.state ≡ Some after → IsTrue (at_most e.bound (after_cost (cost_of task n) (bound_at entries after)))

@@ -1,24 +1,23 @@
-//! The check of a certificate: the entries in their order, then the claim.
-ghost use Rattle.std.specs.Prelude.{◌≡◌, ◌+◌, ◌<◌, ◌↔◌, length, IsTrue, IfOk, MatchOption};
-ghost use Rattle.np_cert.specs.Text.{IsThin};
-ghost use Rattle.np_cert.specs.declared.certificate.Why.TheVariants.{Expanded};
-ghost use Rattle.np_cert.specs.Valid.{at_most, bound_at, is_small, IsFitting, IsExpanded, IsJustified};
-ghost use Rattle.np_check.specs.Verdicts.{AreGood, IsVerdict};
+//! The check of a certificate: the proofs in their order, then the entries in theirs, then the claim.
+ghost use Rattle.std.specs.Prelude.{◌≡◌, ◌+◌, ◌<◌, ◌↔◌, ◌⊎◌, length, All, IsTrue, IfOk, MatchOption};
+ghost use Rattle.np_cert.specs.declared.certificate.Limit.TheVariants.{Number};
+ghost use Rattle.np_cert.specs.Valid.{at_most, bound_at, is_small, IsFitting, IsExpanded, IsJustified, Supports, IsValidProof};
+ghost use Rattle.np_check.specs.Verdicts.{AreGood, IsBadProof, IsVerdict};
 ghost use Rattle.np_check.specs.Steps.{IsBounded};
 
+use crate::bounds::is_within;
 use crate::first::FirstEntries;
 use crate::fitting::is_fitting;
-use crate::limit::{at_most, is_small, is_within};
 use crate::scratch::Scratch;
 use crate::verdict::Verdict;
-use np_cert::{Certificate, Entry, Limit};
+use np_cert::{Certificate, Entry, Limit, Why};
+use np_count::Proof;
 use np_flat::Flat;
 use std::alloc::{AllocError, Global};
 
-/// Checks a certificate of the thin form: whether it is valid for the task, or its first fault. `Memory` comes where
-/// memory runs out, and says nothing of the certificate.
+/// Checks a certificate: whether it is valid for the task, or its first fault. `Memory` comes where memory runs out, and says
+/// nothing of the certificate.
 pub fn check_certificate(alloc: Global, flat: &Flat, certificate: &Certificate) -> Verdict
-    requires thin { IsThin certificate.now }
     ensures verdict { IsVerdict flat.now certificate.now result }
 {
     match verdict_of(alloc, flat, certificate) {
@@ -27,9 +26,23 @@ pub fn check_certificate(alloc: Global, flat: &Flat, certificate: &Certificate) 
     }
 }
 
-/// The verdict on a certificate of the thin form. Want of memory is an error.
+/// The verdict on a certificate. Out of memory is an error.
 fn verdict_of(alloc: Global, flat: &Flat, certificate: &Certificate) -> Result<Verdict, AllocError>
-    requires thin { IsThin certificate.now }
+    ensures { IfOk result (IsVerdict flat.now certificate.now) }
+{
+    if let Some(number) = first_bad_proof(flat, certificate.proofs.as_slice()) {
+        return Ok(Verdict::BadProof(number));
+    }
+    verdict_of_entries(alloc, flat, certificate)
+}
+
+/// The verdict on a certificate whose proofs are valid. Out of memory is an error.
+fn verdict_of_entries(
+    alloc: Global,
+    flat: &Flat,
+    certificate: &Certificate,
+) -> Result<Verdict, AllocError>
+    requires { All (IsValidProof flat.now) certificate.now.proofs }
     ensures { IfOk result (IsVerdict flat.now certificate.now) }
 {
     let first = FirstEntries::new(alloc, certificate.entries.as_slice())?;
@@ -43,6 +56,25 @@ fn verdict_of(alloc: Global, flat: &Flat, certificate: &Certificate) -> Result<V
     }
 }
 
+/// The number of the first proof that isn't valid.
+fn first_bad_proof(flat: &Flat, proofs: &[Proof]) -> Option<usize>
+    ensures { MatchOption result (All (IsValidProof flat.now) proofs.now) (IsBadProof flat.now proofs.now) }
+{
+    for number in 0..proofs.len() {
+        if !is_valid_proof(flat, &proofs[number]) {
+            return Some(number);
+        }
+    }
+    None
+}
+
+/// Whether a counting proof is valid. None is, until counting proofs are built.
+fn is_valid_proof(flat: &Flat, proof: &Proof) -> bool
+    ensures { IsTrue result ↔ IsValidProof flat.now proof.now }
+{
+    false
+}
+
 /// The first fault of the entries.
 fn first_fault(
     alloc: Global,
@@ -50,9 +82,9 @@ fn first_fault(
     certificate: &Certificate,
     first: &FirstEntries<'_>,
 ) -> Result<Option<Verdict>, AllocError>
-    requires thin { IsThin certificate.now }
+    requires proofs { All (IsValidProof flat.now) certificate.now.proofs }
     requires entries { first.now ≡ certificate.now.entries }
-    ensures { IfOk result (λ fault. MatchOption fault (AreGood flat.now certificate.now.entries (length certificate.now.entries)) (IsVerdict flat.now certificate.now)) }
+    ensures { IfOk result (λ fault. MatchOption fault (AreGood flat.now certificate.now (length certificate.now.entries)) (IsVerdict flat.now certificate.now)) }
 {
     let mut scratch = Scratch::new(alloc, flat.parts().steps.len())?;
     for number in 0..certificate.entries.len() {
@@ -73,43 +105,61 @@ fn fault_at(
     number: usize,
     scratch: &mut Scratch,
 ) -> Result<Option<Verdict>, AllocError>
-    requires thin { IsThin certificate.now }
     requires entries { first.now ≡ certificate.now.entries }
     requires within { number < length certificate.now.entries }
-    requires before { AreGood flat.now certificate.now.entries number }
-    ensures { IfOk result (λ fault. MatchOption fault (AreGood flat.now certificate.now.entries (number + 1)) (IsVerdict flat.now certificate.now)) }
+    requires before { AreGood flat.now certificate.now number }
+    ensures { IfOk result (λ fault. MatchOption fault (AreGood flat.now certificate.now (number + 1)) (IsVerdict flat.now certificate.now)) }
 {
     let entry = &certificate.entries.as_slice()[number];
     if first.number_of(number, &entry.state) != Some(number) {
         return Ok(Some(Verdict::TwiceEntry(number)));
     }
-    if !is_justified(alloc, flat, first, entry, scratch)? {
+    if !is_justified(alloc, flat, certificate, first, entry, scratch)? {
         return Ok(Some(Verdict::BadEntry(number)));
     }
     Ok(None)
 }
 
-/// Whether an entry by expansion is justified.
+/// Whether an entry is justified. None is by a proof or a table, until these are built.
 fn is_justified(
+    alloc: Global,
+    flat: &Flat,
+    certificate: &Certificate,
+    first: &FirstEntries<'_>,
+    entry: &Entry,
+    scratch: &mut Scratch,
+) -> Result<bool, AllocError>
+    requires { first.now ≡ certificate.now.entries }
+    ensures { IfOk result (λ good. IsTrue good ↔ IsJustified flat.now certificate.now.proofs certificate.now.entries entry.now) }
+{
+    if !is_fitting(flat.parts(), entry) {
+        return Ok(false);
+    }
+    match entry.why {
+        Why::Expanded => is_by_expansion(alloc, flat, first, entry, scratch),
+        Why::Proof(_) => Ok(false),
+        Why::Table(_) => Ok(false),
+    }
+}
+
+/// Whether the bound of an entry that fits is 0, or the entry is expanded.
+fn is_by_expansion(
     alloc: Global,
     flat: &Flat,
     first: &FirstEntries<'_>,
     entry: &Entry,
     scratch: &mut Scratch,
 ) -> Result<bool, AllocError>
-    requires by_expansion { entry.now.why ≡ Expanded }
-    ensures { IfOk result (λ good. IsTrue good ↔ IsJustified flat.now first.now entry.now) }
+    requires fitting { IsFitting flat.now entry.now }
+    ensures { IfOk result (λ good. IsTrue good ↔ ((entry.now.bound ≡ Number 0) ⊎ IsExpanded flat.now first.now entry.now)) }
 {
-    if !is_fitting(flat.parts(), entry) {
-        return Ok(false);
-    }
     if entry.bound == Limit::Number(0) {
         return Ok(true);
     }
     is_expanded(alloc, flat, first, entry, scratch)
 }
 
-/// Whether the state of an entry that fits is no goal, and each step bounds its bound.
+/// Whether the state of an entry that fits isn't a goal, and each step bounds its bound.
 fn is_expanded(
     alloc: Global,
     flat: &Flat,
@@ -132,7 +182,7 @@ fn is_expanded(
 }
 
 /// Whether the bound of an entry that fits is at most what the step of this number costs with the bound of the state
-/// after it, or the step may not be taken.
+/// after it, or the step isn't applicable.
 fn is_bounded(
     alloc: Global,
     flat: &Flat,
@@ -161,5 +211,5 @@ fn is_bounded(
 fn is_claimed(flat: &Flat, first: &FirstEntries<'_>, claim: Limit) -> bool
     ensures { IsTrue result ↔ (IsTrue (is_small claim) × IsTrue (at_most claim (bound_at first.now flat.now.start))) }
 {
-    is_small(claim) && at_most(claim, first.bound(&flat.parts().start))
+    claim.is_small() && claim.at_most(first.bound(&flat.parts().start))
 }

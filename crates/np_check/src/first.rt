@@ -35,7 +35,7 @@ impl<'a> FirstEntries<'a> {
     ghost use Rattle.np_cert.specs.Valid.{bound_at};
     ghost use Rattle.np_check.specs.First.{HasNone, IsFirst};
 
-    /// The entries, each put in once, the last one first, so that the number of the first one stays. Want of memory is an
+    /// The entries, each put in once, the last one first, so that the number of the first one stays. Out of memory is an
     /// error.
     pub fn new(alloc: Global, entries: &'a [Entry]) -> Result<FirstEntries<'a>, AllocError>
         ensures { IfOk result (λ f. f ≡ entries.now) }

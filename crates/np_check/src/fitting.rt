@@ -1,14 +1,10 @@
 //! Whether the state of an entry is one of the task, with values and a bound that are small.
-ghost use Rattle.std.specs.Prelude.{◌^◌, ◌↔◌, IsTrue};
-ghost use Rattle.np_flat.specs.Flats.{AreNumbers, AreBelow};
+ghost use Rattle.std.specs.Prelude.{◌↔◌, IsTrue};
+ghost use Rattle.np_flat.specs.Flats.{AreNumbers, AreWithinLimit};
 ghost use Rattle.np_cert.specs.Valid.{IsFitting};
 
-use crate::limit::is_small;
 use np_cert::Entry;
-use np_flat::Parts;
-
-/// What the size of a value is below.
-const VALUE_SIZE: u128 = 1 << 87;
+use np_flat::{Parts, VALUE_SIZE};
 
 /// Whether the entry fits the task.
 pub fn is_fitting(parts: &Parts, entry: &Entry) -> bool
@@ -16,8 +12,8 @@ pub fn is_fitting(parts: &Parts, entry: &Entry) -> bool
 {
     are_numbers(parts.facts.len(), entry.state.facts.as_slice())
         && entry.state.values.len() == parts.values.len()
-        && are_below(entry.state.values.as_slice())
-        && is_small(entry.bound)
+        && are_within(entry.state.values.as_slice())
+        && entry.bound.is_small()
 }
 
 /// Whether the numbers ascend, and are below the limit.
@@ -35,9 +31,9 @@ fn are_numbers(limit: usize, numbers: &[u32]) -> bool
     true
 }
 
-/// Whether the sizes of the values are within what an entry may have.
-fn are_below(values: &[i128]) -> bool
-    ensures { IsTrue result ↔ AreBelow (2 ^ 87) values.now }
+/// Whether the sizes of the values are within the limit.
+fn are_within(values: &[i128]) -> bool
+    ensures { IsTrue result ↔ AreWithinLimit values.now }
 {
     values.iter().all(|value| value.unsigned_abs() < VALUE_SIZE)
 }

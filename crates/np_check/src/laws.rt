@@ -12,7 +12,7 @@ pub fn fault_is_no_yes()
     ensures { FaultIsNoYes }
 {}
 
-/// A certificate has at most one verdict, want of memory apart.
+/// A certificate has at most one verdict, unless memory ran out.
 pub fn one_verdict()
     ensures { OneVerdict }
 {}

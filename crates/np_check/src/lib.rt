@@ -3,14 +3,12 @@
 //! What makes a certificate valid, and the order of its faults, are this project's own.
 #![tactic(auto)]
 
+mod bounds;
 mod check;
 mod first;
 mod fitting;
 mod laws;
-mod limit;
 mod scratch;
-#[cfg(test)]
-mod tests;
 mod verdict;
 
 pub use check::check_certificate;

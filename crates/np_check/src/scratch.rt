@@ -10,13 +10,13 @@ use std::alloc::{AllocError, Global};
 pub struct Scratch {
     /// The state that the last step led to.
     pub after: FlatState,
-    // By step, 1 more than the number of the entry that it last led to. Where entries stand in the order of a search, the same
+    // By step, 1 more than the number of the entry that it last led to. Where entries are in the order of a search, the same
     // step from the next entry mostly leads there.
     guesses: Vec<usize>,
 }
 
 impl Scratch {
-    /// For so many steps. Want of memory is an error.
+    /// For so many steps. Out of memory is an error.
     pub fn new(alloc: Global, steps: usize) -> Result<Scratch, AllocError> {
         Ok(Scratch {
             after: FlatState {

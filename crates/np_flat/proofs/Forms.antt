@@ -5,7 +5,7 @@ use Rattle.std.proofs.lemmas.Bool.{cases_lt}
 use Rattle.std.proofs.lemmas.List.{length-map, length-take-le, get_or-map, get_or_past, take_more}
 use Rattle.std.proofs.lemmas.List.Elements.{All-head, All-tail, All-take, All-weaker}
 use Rattle.np_flat.specs.declared.parts.Form.{Form}
-use Rattle.np_flat.specs.Flats.{AreAmounts, IsForm}
+use Rattle.np_flat.specs.Flats.{AreAmounts, IsForm, AreSmall}
 use Rattle.np_flat.specs.States.{value_at, terms_value}
 
 -- a sum is no larger than its parts together
@@ -62,7 +62,7 @@ amounts_within limit size amounts of k d h =
     subst (λ n. n < limit) (get_or-map (λ (a : ℕ × ℤ). a.0) amounts k d d.0 h) (of.numbers.within k d.0 (subst (λ n. k < n) (sym (length-map amounts (λ (a : ℕ × ℤ). a.0))) h))
 
 -- what a form's sum is on the way is small
-pub sum_small : (form : Form) (values : List ℤ) (i : ℕ) → IsForm (length values) form → All (λ v. unsigned_abs v ≤ 2 ^ 87 + 2 ^ 62) values → i < length form.terms → unsigned_abs (form.constant +ℤ terms_value values (take i form.terms)) ≤ 2 ^ 126
+pub sum_small : (form : Form) (values : List ℤ) (i : ℕ) → IsForm (length values) form → AreSmall values → i < length form.terms → unsigned_abs (form.constant +ℤ terms_value values (take i form.terms)) ≤ 2 ^ 126
 sum_small form values i of small h =
     let each : All (λ t. unsigned_abs t.1 ≤ 2 ^ 31) form.terms =
     All-weaker (λ (t : ℕ × ℤ). unsigned_abs t.1 < 2 ^ 31) (λ (t : ℕ × ℤ). unsigned_abs t.1 ≤ 2 ^ 31) (λ t k. omega arith) form.terms (amounts_small (length values) (2 ^ 31) form.terms of.terms) in

@@ -3,5 +3,9 @@ pub mod Forms
 pub mod Changes
 pub mod Terms
 pub mod Steps
+pub mod NetChanges
+pub mod NetSums
+pub mod Searches
 pub mod Runs
-pub mod Example
+pub mod Index
+pub mod Moves

@@ -3,11 +3,11 @@ use Rattle.std.proofs.Common.{◌≡◌, ◌≢◌, ℕ, ◌+◌, ◌^◌, ◌�
 use Rattle.std.specs.Prelude.{filter, map}
 use Rattle.std.proofs.lemmas.Bool.{cases_eq}
 use Rattle.std.proofs.lemmas.List.{get_or-set_same, get_or-set_other, get_or-map, length-map, length-set, get_or_default}
-use Rattle.std.proofs.lemmas.List.Elements.{All-nil, All-cons, All-head, All-tail, All-filter, All-weaker}
+use Rattle.std.proofs.lemmas.List.Elements.{All-head, All-tail, All-filter, All-weaker}
 use Rattle.np_flat.specs.declared.state.FlatState.{FlatState}
 use Rattle.np_flat.specs.declared.parts.FlatStep.{FlatStep}
 use Rattle.np_flat.specs.declared.parts.Parts.{Parts}
-use Rattle.np_flat.specs.Flats.{IsAscending, AreBelow, IsState, IsStateOf, IsStep, IsFlat}
+use Rattle.np_flat.specs.Flats.{IsAscending, AreBelow, AreWithinLimit, AreSmall, IsState, IsStateOf, IsStep, IsFlat}
 use Rattle.np_flat.specs.States.{has, put_all, facts_after, value_at, changed, all_changed, state_after}
 use Rattle.np_flat.proofs.Ascending.{above_first, ascending_rest, ascending_filter, ascending_put_all, All-put_all}
 use Rattle.np_flat.proofs.Forms.{abs_sum, amounts_small}
@@ -57,19 +57,6 @@ first_kept c cs values d up within =
     value_kept cs (changed values c) c.0 d (All-weaker (λ (e : ℕ × ℤ). c.0 < e.0) (λ (e : ℕ × ℤ). c.0 ≢ e.0) (λ e h. omega arith) cs (above_change c cs up))
     ∙ get_or-set_same values c.0 (value_at values c.0 +ℤ c.1) d within
 
--- each change of ascending numbers is added to the value that it is on
-pub change_added : (changes : List (ℕ × ℤ)) (values : List ℤ) → IsAscending (map (λ a. a.0) changes) → All (λ c. c.0 < length values) changes → All (λ c. value_at (all_changed changes values) c.0 ≡ value_at values c.0 +ℤ c.1) changes
-change_added [] values up within = All-nil (λ (c : ℕ × ℤ). value_at values c.0 ≡ value_at values c.0 +ℤ c.1)
-change_added (c ∷ cs) values up within =
-    All-cons (λ (e : ℕ × ℤ). value_at (all_changed cs (changed values c)) e.0 ≡ value_at values e.0 +ℤ e.1) c cs
-    (first_kept c cs values (pos 0) up (All-head (λ (e : ℕ × ℤ). e.0 < length values) c cs within))
-    (λ k d h.
-    let above : c.0 < (get_or cs k d).0 = above_change c cs up k d h in
-    let ne : (get_or cs k d).0 ≢ c.0 = omega arith in
-    change_added cs (changed values c) (ascending_rest c.0 (map (λ (a : ℕ × ℤ). a.0) cs) up)
-    (subst (λ n. All (λ (e : ℕ × ℤ). e.0 < n) cs) (sym (length-set values c.0 (value_at values c.0 +ℤ c.1))) (All-tail (λ (e : ℕ × ℤ). e.0 < length values) c cs within)) k d h
-    ∙ ap (λ z. z +ℤ (get_or cs k d).1) (get_or-set_other values c.0 (get_or cs k d).0 (value_at values c.0 +ℤ c.1) (pos 0) ne))
-
 -- what each value is after changes of ascending numbers: it stays, or one change is added to it
 pub near_changed : (P Q : ℤ → Type 0) (most : ℕ) → ((v : ℤ) → P v → Q v) → ((v w : ℤ) → P v → unsigned_abs w ≤ most → Q (v +ℤ w))
     → (changes : List (ℕ × ℤ)) (values : List ℤ) → IsAscending (map (λ c. c.0) changes) → All (λ c. unsigned_abs c.1 ≤ most) changes → All P values → All Q (all_changed changes values)
@@ -114,8 +101,8 @@ module _ (task : Parts) (xs : List FlatStep) (n : ℕ) (step : FlatStep) (s afte
   is_state of =
       subst (IsStateOf task) (sym is) (state_of_after (length task.facts) (length task.values) (length task.subgoals) step s (step_is task xs n step flat steps within at) of)
 
-  pub is_near : AreBelow (2 ^ 87) s.values → All (λ v. unsigned_abs v ≤ 2 ^ 87 + 2 ^ 62) after.values
+  pub is_near : AreWithinLimit s.values → AreSmall after.values
   is_near small =
       let wide : All (λ v. unsigned_abs v ≤ 2 ^ 87) s.values = All-weaker (λ (v : ℤ). unsigned_abs v < 2 ^ 87) (λ (v : ℤ). unsigned_abs v ≤ 2 ^ 87) (λ v h. omega arith) s.values small in
-      subst (λ (t : FlatState). All (λ v. unsigned_abs v ≤ 2 ^ 87 + 2 ^ 62) t.values) (sym is)
+      subst (λ (t : FlatState). AreSmall t.values) (sym is)
       (near_after (length task.facts) (length task.values) (length task.subgoals) (2 ^ 87) step s (step_is task xs n step flat steps within at) wide)

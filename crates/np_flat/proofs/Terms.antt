@@ -1,10 +1,10 @@
 -- One term more, at the widths of the code.
-use Rattle.std.proofs.Common.{◌≡◌, ℕ, ◌+◌, ◌*◌, ◌^◌, ◌≤◌, ◌<◌, ℤ, ◌+ℤ◌, ◌*ℤ◌, unsigned_abs, List, length, get_or, take, All, sym, subst, arith}
+use Rattle.std.proofs.Common.{◌≡◌, ℕ, ◌+◌, ◌*◌, ◌^◌, ◌≤◌, ◌<◌, ℤ, ◌+ℤ◌, ◌*ℤ◌, unsigned_abs, List, length, get_or, take, sym, subst, arith}
 use Rattle.std.proofs.lemmas.Int.{to_z-of_z, unsigned_abs-mul}
 use mir.Syntax.{w128}
 use mir.Val.{SFits, to_z, of_z}
 use Rattle.np_flat.specs.declared.parts.Form.{Form}
-use Rattle.np_flat.specs.Flats.{IsForm}
+use Rattle.np_flat.specs.Flats.{IsForm, AreSmall}
 use Rattle.np_flat.specs.States.{value_at, terms_value}
 use Rattle.np_flat.proofs.Forms.{abs_sum, product_small, value_small, amounts_small, amounts_within, sum_more}
 use Rattle.np_flat.proofs.Changes.{fits_wide}
@@ -36,14 +36,14 @@ coefficient_read values form ts i d of f h =
     let small : unsigned_abs (get_or ts i d).1 ≤ 2 ^ 31 = coefficient_small values form ts i d of f h in
     to_z-of_z w128 (get_or ts i d).1 (fits_wide (get_or ts i d).1 (omega arith))
 
-pub value_read : (values xs : List ℤ) (n : ℕ) → xs ≡ values → All (λ v. unsigned_abs v ≤ 2 ^ 87 + 2 ^ 62) values → to_z w128 (of_z w128 (value_at xs n)) ≡ value_at xs n
+pub value_read : (values xs : List ℤ) (n : ℕ) → xs ≡ values → AreSmall values → to_z w128 (of_z w128 (value_at xs n)) ≡ value_at xs n
 value_read values xs n e small =
     let here : unsigned_abs (value_at values n) ≤ 2 ^ 87 + 2 ^ 62 = value_small (2 ^ 87 + 2 ^ 62) values n small in
     let there : unsigned_abs (value_at xs n) ≤ 2 ^ 87 + 2 ^ 62 = subst (λ vs. unsigned_abs (value_at vs n) ≤ 2 ^ 87 + 2 ^ 62) (sym e) here in
     to_z-of_z w128 (value_at xs n) (fits_wide (value_at xs n) (omega arith))
 
 -- the sum with the next term, as the code reads it
-pub term_more : (values xs : List ℤ) (form : Form) (ts : List (ℕ × ℤ)) (i : ℕ) (d : ℕ × ℤ) (z : ℤ) → IsForm (length values) form → All (λ v. unsigned_abs v ≤ 2 ^ 87 + 2 ^ 62) values → xs ≡ values → ts ≡ form.terms → i < length ts
+pub term_more : (values xs : List ℤ) (form : Form) (ts : List (ℕ × ℤ)) (i : ℕ) (d : ℕ × ℤ) (z : ℤ) → IsForm (length values) form → AreSmall values → xs ≡ values → ts ≡ form.terms → i < length ts
     → z ≡ form.constant +ℤ terms_value values (take i form.terms)
     → z +ℤ (to_z w128 (of_z w128 (get_or ts i d).1) *ℤ to_z w128 (of_z w128 (value_at xs (get_or ts i d).0))) ≡ form.constant +ℤ terms_value values (take (i + 1) form.terms)
 term_more values xs form ts i d z of small e f h so_far =

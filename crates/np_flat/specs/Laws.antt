@@ -1,40 +1,27 @@
--- Laws of the definitions: what lists with numbers put in have, what changes do, and how large the values of a run are.
-use Rattle.std.specs.Prelude.{◌≡◌, ℕ, ◌+◌, ◌*◌, ◌^◌, ◌||◌, ℤ, ◌+ℤ◌, List, length, map, All, Contains, Some}
+-- Laws of the definitions: what a step does to the value of a form and to subgoals, and how large the values of a run are.
+use Rattle.std.specs.Prelude.{◌≡◌, ◌⊎◌, ℕ, ◌+◌, ◌*◌, ◌+ℤ◌, true, List, length, Some}
+use Rattle.np_flat.specs.declared.limits.TheConstants.{CHANGE_SIZE}
 use Rattle.np_flat.specs.declared.state.FlatState.{FlatState}
+use Rattle.np_flat.specs.declared.parts.Form.{Form}
 use Rattle.np_flat.specs.declared.parts.Parts.{Parts}
-use Rattle.np_flat.specs.Flats.{IsAscending, AreBelow, AreAmounts, IsStateOf, IsFlat}
-use Rattle.np_flat.specs.States.{has, value_at, put_all, all_changed, next}
+use Rattle.np_flat.specs.Flats.{AreBelow, IsStateOf, IsFlat}
+use Rattle.np_flat.specs.States.{form_value, holds, next}
+use Rattle.np_flat.specs.Achieving.{net_of, achieved_by}
 use Rattle.np_flat.specs.Plans.{run_from}
 
--- numbers put into an ascending list leave it ascending
-abbrev pub PutAllAscends : Type 0
-PutAllAscends = (numbers others : List ℕ) → IsAscending others → IsAscending (put_all numbers others)
+-- a step adds exactly its net change to the value of a form
+abbrev pub StepAddsNet : Type 0
+StepAddsNet = (task : Parts) (n : ℕ) (form : Form) (s t : FlatState) → IsFlat task → IsStateOf task s → next task n s ≡ Some t → form_value form t ≡ form_value form s +ℤ net_of task n form
 
--- it has exactly the members of both
-abbrev pub PutAllHasBoth : Type 0
-PutAllHasBoth = (numbers others : List ℕ) (n : ℕ) → has (put_all numbers others) n ≡ (has numbers n || has others n)
+-- a subgoal that holds after a step held before it, or the step achieves it
+abbrev pub KeptOrAchieved : Type 0
+KeptOrAchieved = (task : Parts) (n q : ℕ) (s t : FlatState) → IsFlat task → IsStateOf task s → next task n s ≡ Some t → holds task t q ≡ true → (holds task s q ≡ true) ⊎ (achieved_by task n q ≡ true)
 
--- each change is added to the value that it is on
-abbrev pub ChangesAdd : Type 0
-ChangesAdd = (changes : List (ℕ × ℤ)) (values : List ℤ) (size : ℕ) → AreAmounts (length values) size changes → All (λ c. value_at (all_changed changes values) c.0 ≡ value_at values c.0 +ℤ c.1) changes
-
--- a value that no change is on stays
-abbrev pub OthersStay : Type 0
-OthersStay = (changes : List (ℕ × ℤ)) (values : List ℤ) (n : ℕ) → (Contains (map (λ c. c.0) changes) n → ⊥) → value_at (all_changed changes values) n ≡ value_at values n
-
--- a state of the task whose values are below this size
-pub record IsSmall (task : Parts) (size : ℕ) (s : FlatState) : Type 0 where
+-- a state of the task whose values are below this in size
+pub record IsStateBelow (task : Parts) (size : ℕ) (s : FlatState) : Type 0 where
   pub state : IsStateOf task s
   pub values : AreBelow size s.values
 
--- a step leads from a small state to one whose values are less than 2^62 larger
-abbrev pub StepsAreSmall : Type 0
-StepsAreSmall = (task : Parts) (size n : ℕ) (s t : FlatState) → IsFlat task → IsSmall task size s → next task n s ≡ Some t → IsSmall task (size + 2 ^ 62) t
-
--- so does each step of a run
-abbrev pub RunsAreSmall : Type 0
-RunsAreSmall = (task : Parts) (numbers : List ℕ) (size : ℕ) (s t : FlatState) → IsFlat task → IsSmall task size s → run_from task numbers s ≡ Some t → IsSmall task (size + 2 ^ 62 * length numbers) t
-
--- a run from the start
+-- each step of a run from the start may add less than the limit of a change to the values
 abbrev pub StartedRunsAreSmall : Type 0
-StartedRunsAreSmall = (task : Parts) (numbers : List ℕ) (t : FlatState) → IsFlat task → run_from task numbers task.start ≡ Some t → IsSmall task (2 ^ 62 * (1 + length numbers)) t
+StartedRunsAreSmall = (task : Parts) (numbers : List ℕ) (t : FlatState) → IsFlat task → run_from task numbers task.start ≡ Some t → IsStateBelow task (CHANGE_SIZE * (1 + length numbers)) t

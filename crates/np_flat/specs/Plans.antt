@@ -10,7 +10,7 @@ use Rattle.np_flat.specs.States.{next, is_goal}
 abbrev pub cost_of : Parts → ℕ → ℕ
 cost_of task n = option_map_or (λ step. step.cost) (slice_get task.steps n) 0
 
--- the state after steps by number, each applicable where it stands; none where one isn't
+-- the state after steps by number, each applicable in its turn; none where one isn't
 abbrev pub run_from : Parts → List ℕ → FlatState → Option FlatState
 run_from task [] s = Some s
 run_from task (n ∷ ns) s = option_and_then (run_from task ns) (next task n s)
@@ -30,12 +30,16 @@ pub record Leads (task : Parts) (s : FlatState) (numbers : List ℕ) : Type 0 wh
 abbrev pub step_at : Parts → ℕ → Option Step
 step_at task n = option_map (λ step. step.step) (slice_get task.steps n)
 
--- a list of steps is a flat plan of this cost: numbers that stand for them lead from the start to the goal, and cost so much together
-pub record IsPlan (task : Parts) (steps : List Step) (cost : ℕ) : Type 0 where
+-- a list of steps is a flat plan of this cost from a state: numbers that stand for them lead from there to the goal, and cost so much together
+pub record IsPlanFrom (task : Parts) (s : FlatState) (steps : List Step) (cost : ℕ) : Type 0 where
   pub numbers : List ℕ
   pub steps_are : map (step_at task) numbers ≡ map Some steps
-  pub leads : Leads task task.start numbers
+  pub leads : Leads task s numbers
   pub costs : cost ≡ cost_sum task numbers
+
+-- a flat plan is one from the start
+abbrev pub IsPlan : Parts → List Step → ℕ → Type 0
+IsPlan task = IsPlanFrom task task.start
 
 -- a state is reachable where steps lead to it from the start; they cost so much together
 pub record Reaches (task : Parts) (s : FlatState) (cost : ℕ) : Type 0 where

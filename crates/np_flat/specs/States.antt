@@ -43,7 +43,7 @@ is_goal task s = list_all (holds task s) task.goal
 abbrev pub meets : Parts → FlatState → FlatStep → Bool
 meets task s step = list_all (holds task s) step.needs
 
--- whether the step of this number may be taken: all its needs hold
+-- whether the step of this number is applicable: all its needs hold
 abbrev pub is_applicable : Parts → FlatState → ℕ → Bool
 is_applicable task s n = option_map_or (meets task s) (slice_get task.steps n) false
 
@@ -74,6 +74,6 @@ all_changed (c ∷ cs) values = all_changed cs (changed values c)
 abbrev pub state_after : FlatStep → FlatState → FlatState
 state_after step s = record { facts = facts_after step s.facts; values = all_changed step.changes s.values }
 
--- the state after the step of this number, where there is one and it may be taken
+-- the state after the step of this number, where there is one and it is applicable
 abbrev pub next : Parts → ℕ → FlatState → Option FlatState
 next task n s = option_and_then (λ step. if meets task s step then Some (state_after step s) else None) (slice_get task.steps n)

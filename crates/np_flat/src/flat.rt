@@ -1,10 +1,14 @@
 //! The flat task, and what holds in its states.
-ghost use Rattle.std.specs.Prelude.{◌≡◌, ◌<◌, ◌≤◌, ◌^◌, ◌+◌, true, length, All, unsigned_abs, Some, IfOk, OnOk};
+ghost use Rattle.std.specs.Prelude.{◌≡◌, ◌<◌, ◌≤◌, ◌^◌, ℕ, true, length, All, unsigned_abs, Some, IfOk, OnOk};
 ghost use Rattle.std.specs.List.{list_all};
-ghost use Rattle.np_flat.specs.Flats.{IsFlat, IsStateOf, AreBelow};
-ghost use Rattle.np_flat.specs.States.{holds, is_goal, is_applicable, next};
+ghost use Rattle.np_flat.specs.Flats.{IsAscending, IsFlat, IsForm, IsSubgoal, IsStep, IsStateOf, AreWithinLimit, AreSmall};
+ghost use Rattle.np_flat.specs.States.{has, holds, is_goal, is_applicable, next};
+ghost use Rattle.np_flat.specs.Achieving.{achieves, achieved_by, net_of};
 
-use crate::parts::{Parts, Subgoal};
+use crate::net::net_terms;
+use crate::numbers::has;
+use crate::parts::{FlatStep, Form, Parts, Subgoal};
+use crate::readers::Readers;
 use crate::state::FlatState;
 use crate::step::leave_after;
 use sqlite_items::Items;
@@ -15,26 +19,31 @@ use std::marker::Model;
 #[derive(Debug, Drop)]
 pub struct Flat {
     parts: Parts,
+    // Which subgoals read each fact and each value.
+    readers: Readers,
 }
 
 impl Model for Flat {
     ghost use Rattle.np_flat.specs.declared.parts.Parts.{Parts};
     ghost use Rattle.np_flat.specs.Flats.{IsFlat};
+    ghost use Rattle.np_flat.specs.Readers.{IsIndex};
 
     ghost Value = { Parts };
 
     ghost view = { λ f. f.parts };
 
-    ghost invariant = { λ f. IsFlat f.parts };
+    ghost invariant = { λ f. IsFlat f.parts × IsIndex f.parts f.readers };
 }
 
 impl Flat {
-    /// The flat task with these parts.
-    pub fn new(parts: Parts) -> Flat
+    /// The flat task with these parts. It takes memory for an index of the subgoals: one entry for each that is a fact or a
+    /// fact's negation, and one for each term of a form. Out of memory is an error.
+    pub fn new(alloc: Global, parts: Parts) -> Result<Flat, AllocError>
         requires { IsFlat parts }
-        ensures { result ≡ parts }
+        ensures { IfOk result (λ flat. flat ≡ parts) }
     {
-        Flat { parts }
+        let readers = Readers::new(alloc, &parts)?;
+        Ok(Flat { parts, readers })
     }
 
     /// Its parts, which are within the limits.
@@ -49,7 +58,7 @@ impl Flat {
     pub fn holds(&self, subgoal: u32, state: &FlatState) -> bool
         requires number { subgoal < length self.now.subgoals }
         requires state { IsStateOf self.now state.now }
-        requires small { All (λ v. unsigned_abs v ≤ 2 ^ 87 + 2 ^ 62) state.now.values }
+        requires small { AreSmall state.now.values }
         ensures { result ≡ holds self.now state.now subgoal }
     {
         match &self.parts.subgoals.as_slice()[subgoal as usize] {
@@ -62,17 +71,17 @@ impl Flat {
     /// Whether the goal holds in a state. It takes no memory.
     pub fn is_goal(&self, state: &FlatState) -> bool
         requires state { IsStateOf self.now state.now }
-        requires small { All (λ v. unsigned_abs v ≤ 2 ^ 87 + 2 ^ 62) state.now.values }
+        requires small { AreSmall state.now.values }
         ensures { result ≡ is_goal self.now state.now }
     {
         self.hold(self.parts.goal.as_slice(), state)
     }
 
-    /// Whether the step of this number may be taken in a state. It takes no memory.
+    /// Whether the step of this number is applicable in a state. It takes no memory.
     pub fn applicable(&self, step: u32, state: &FlatState) -> bool
         requires number { step < length self.now.steps }
         requires state { IsStateOf self.now state.now }
-        requires small { All (λ v. unsigned_abs v ≤ 2 ^ 87 + 2 ^ 62) state.now.values }
+        requires small { AreSmall state.now.values }
         ensures { result ≡ is_applicable self.now state.now step }
     {
         self.hold(
@@ -81,7 +90,7 @@ impl Flat {
         )
     }
 
-    /// The state after a step that may be taken. Want of memory is an error.
+    /// The state after an applicable step. Out of memory is an error.
     pub fn after(
         &self,
         alloc: Global,
@@ -90,11 +99,11 @@ impl Flat {
     ) -> Result<FlatState, AllocError>
         requires number { step < length self.now.steps }
         requires state { IsStateOf self.now state.now }
-        requires small { AreBelow (2 ^ 87) state.now.values }
+        requires within { AreWithinLimit state.now.values }
         requires applicable { is_applicable self.now state.now step ≡ true }
         ensures after { IfOk result (λ after. next self.now step state.now ≡ Some after) }
         ensures state_of { IfOk result (IsStateOf self.now) }
-        ensures near { IfOk result (λ after. All (λ v. unsigned_abs v ≤ 2 ^ 87 + 2 ^ 62) after.values) }
+        ensures small { IfOk result (λ after. AreSmall after.values) }
     {
         let mut after = FlatState {
             facts: Items::new(alloc),
@@ -104,9 +113,9 @@ impl Flat {
         Ok(after)
     }
 
-    /// Leaves the state after a step that may be taken in `after`, whatever state was there, and uses its memory again. None
-    /// is taken where that state has as many values, and either no fact is true after the step, or the step names none and
-    /// that state has the facts already. Want of memory is an error, and then nothing is said of `after`.
+    /// Leaves the state after an applicable step in `after`, whatever state was there, and uses its memory again. It
+    /// takes no memory where `after` has as many values as the state, and either no fact is true after the step, or the step
+    /// names no fact and `after` has the state's facts already. Out of memory is an error, and then nothing is said of `after`.
     pub fn after_in(
         &self,
         alloc: Global,
@@ -116,11 +125,11 @@ impl Flat {
     ) -> Result<(), AllocError>
         requires number { step < length self.now.steps }
         requires state { IsStateOf self.now state.now }
-        requires small { AreBelow (2 ^ 87) state.now.values }
+        requires within { AreWithinLimit state.now.values }
         requires applicable { is_applicable self.now state.now step ≡ true }
         ensures after { OnOk result (next self.now step state.now ≡ Some after.new) }
         ensures state_of { OnOk result (IsStateOf self.now after.new) }
-        ensures near { OnOk result (All (λ v. unsigned_abs v ≤ 2 ^ 87 + 2 ^ 62) after.new.values) }
+        ensures small { OnOk result (AreSmall after.new.values) }
     {
         leave_after(
             alloc,
@@ -130,11 +139,81 @@ impl Flat {
         )
     }
 
+    /// The exact net change of the step of this number on a form: what the step adds to the form's value. It takes no memory.
+    pub fn net(&self, step: u32, form: &Form) -> i128
+        requires number { step < length self.now.steps }
+        requires form { IsForm (length self.now.values) form.now }
+        ensures value { result ≡ net_of self.now step form.now }
+        ensures small { unsigned_abs result < 2 ^ 99 }
+    {
+        net_terms(
+            self.parts.steps.as_slice()[step as usize]
+                .changes
+                .as_slice(),
+            form.terms.as_slice(),
+        )
+    }
+
+    /// Whether the step of this number achieves the subgoal of this number: a fact that it adds, the negation of a fact that
+    /// it deletes, or a form on which its net change is above 0. A number without a step or a subgoal gives no. It takes no
+    /// memory.
+    pub fn achieves(&self, step: u32, subgoal: u32) -> bool
+        ensures { result ≡ achieved_by self.now step subgoal }
+    {
+        let step = self.parts.steps.as_slice().get(step as usize);
+        let subgoal = self.parts.subgoals.as_slice().get(subgoal as usize);
+        match (step, subgoal) {
+            (Some(step), Some(subgoal)) => self.step_achieves(step, subgoal),
+            _ => false,
+        }
+    }
+
+    /// Whether a step achieves a subgoal.
+    fn step_achieves(&self, step: &FlatStep, subgoal: &Subgoal) -> bool
+        requires step { IsStep (length self.now.facts) (length self.now.values) (length self.now.subgoals) step.now }
+        requires subgoal { IsSubgoal (length self.now.facts) (length self.now.values) subgoal.now }
+        ensures { result ≡ achieves step.now subgoal.now }
+    {
+        match subgoal {
+            Subgoal::Fact(fact) => has(step.adds.as_slice(), *fact),
+            Subgoal::NotFact(fact) => has(step.deletes.as_slice(), *fact),
+            Subgoal::Form(form) => 0 < net_terms(step.changes.as_slice(), form.terms.as_slice()),
+        }
+    }
+
+    /// The numbers of the subgoals that the step of this number achieves, ascending. It looks only at the subgoals that read a
+    /// fact or a value that the step touches. Out of memory is an error.
+    pub fn achieved(&self, alloc: Global, step: u32) -> Result<Vec<u32>, AllocError>
+        requires { step < length self.now.steps }
+        ensures ascending { IfOk result (λ achieved. IsAscending achieved.items) }
+        ensures exact { IfOk result (λ achieved. (q : ℕ) → has achieved.items q ≡ achieved_by self.now step q) }
+    {
+        let mut achieved = Vec::new(alloc);
+        self.achieved_in(step, &mut achieved)?;
+        Ok(achieved)
+    }
+
+    /// Leaves the numbers of the subgoals that the step of this number achieves, ascending, in `achieved`, whatever numbers
+    /// were there, and uses its memory again. Out of memory is an error, and then nothing is said of `achieved`.
+    pub fn achieved_in(&self, step: u32, achieved: &mut Vec<u32>) -> Result<(), AllocError>
+        requires { step < length self.now.steps }
+        ensures ascending { OnOk result (IsAscending achieved.new.items) }
+        ensures exact { OnOk result ((q : ℕ) → has achieved.new.items q ≡ achieved_by self.now step q) }
+    {
+        achieved.clear();
+        self.readers
+            .put_touched(&self.parts.steps.as_slice()[step as usize], achieved)?;
+        achieved.sort_unstable();
+        achieved.dedup();
+        achieved.retain(|subgoal| self.achieves(step, *subgoal));
+        Ok(())
+    }
+
     /// Whether all these subgoals hold in a state.
     fn hold(&self, subgoals: &[u32], state: &FlatState) -> bool
         requires numbers { All (λ q. q < length self.now.subgoals) subgoals.now }
         requires state { IsStateOf self.now state.now }
-        requires small { All (λ v. unsigned_abs v ≤ 2 ^ 87 + 2 ^ 62) state.now.values }
+        requires small { AreSmall state.now.values }
         ensures { result ≡ list_all (holds self.now state.now) subgoals.now }
     {
         subgoals.iter().all(|subgoal| self.holds(*subgoal, state))

@@ -8,19 +8,20 @@
 mod flat;
 mod form;
 mod laws;
+mod limits;
+mod net;
 mod numbers;
 mod parts;
+mod readers;
 mod state;
 mod step;
 
 pub use flat::Flat;
-pub use laws::{
-    changes_add, others_stay, put_all_ascends, put_all_has_both, runs_are_small,
-    started_runs_are_small, steps_are_small,
+pub use laws::{kept_or_achieved, started_runs_are_small, step_adds_net};
+pub use limits::{
+    CHANGE_SIZE, COEFFICIENT_SIZE, CONSTANT_SIZE, COST_SIZE, MOST_FACTS, MOST_STEPS, MOST_SUBGOALS,
+    MOST_TERMS, MOST_VALUES, VALUE_SIZE,
 };
 pub use numbers::put_in;
 pub use parts::{FlatStep, Form, Parts, Subgoal};
 pub use state::FlatState;
-
-#[cfg(test)]
-mod tests;

@@ -28,7 +28,7 @@ pub fn put_in(numbers: &mut Vec<u32>, number: u32) -> Result<(), AllocError>
     Ok(())
 }
 
-/// Puts all the numbers in their places in an ascending list. Want of memory is an error.
+/// Puts all the numbers in their places in an ascending list. Out of memory is an error.
 pub fn put_all(numbers: &mut Vec<u32>, more: &[u32]) -> Result<(), AllocError>
     requires { IsAscending numbers.old.items }
     ensures { OnOk result (numbers.new.items ≡ put_all more.now numbers.old.items) }

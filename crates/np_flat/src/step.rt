@@ -1,6 +1,7 @@
 //! What a step makes of a state.
-ghost use Rattle.std.specs.Prelude.{◌≡◌, ◌^◌, length, not, filter, IfOk, OnOk};
-ghost use Rattle.np_flat.specs.Flats.{IsAscending, AreBelow, AreAmounts};
+ghost use Rattle.std.specs.Prelude.{◌≡◌, length, not, filter, IfOk, OnOk};
+ghost use Rattle.np_flat.specs.declared.limits.TheConstants.{CHANGE_SIZE};
+ghost use Rattle.np_flat.specs.Flats.{IsAscending, AreWithinLimit, AreAmounts};
 ghost use Rattle.np_flat.specs.States.{has, facts_after, all_changed, state_after};
 
 use crate::numbers::{has, put_all};
@@ -9,7 +10,7 @@ use crate::state::FlatState;
 use sqlite_items::Items;
 use std::alloc::{AllocError, Global};
 
-/// Leaves the state after a step in `after`, whether or not the step may be taken. Its memory is used again. After an error
+/// Leaves the state after a step in `after`, whether or not the step is applicable. Its memory is used again. After an error
 /// nothing is said of it.
 pub fn leave_after(
     alloc: Global,
@@ -19,8 +20,8 @@ pub fn leave_after(
 ) -> Result<(), AllocError>
     requires facts { IsAscending state.now.facts }
     requires deletes { IsAscending step.now.deletes }
-    requires changes { AreAmounts (length state.now.values) (2 ^ 62) step.now.changes }
-    requires small { AreBelow (2 ^ 87) state.now.values }
+    requires changes { AreAmounts (length state.now.values) CHANGE_SIZE step.now.changes }
+    requires within { AreWithinLimit state.now.values }
     ensures { OnOk result (after.new ≡ state_after step.now state.now) }
 {
     leave_facts(alloc, step, state.facts.as_slice(), &mut after.facts)?;
@@ -94,8 +95,8 @@ fn overwrite(values: &mut Items<i128>, others: &[i128])
 
 /// Adds all changes.
 fn make_changes(values: &mut Items<i128>, changes: &[(u32, i128)])
-    requires changes { AreAmounts (length values.old) (2 ^ 62) changes.now }
-    requires small { AreBelow (2 ^ 87) values.old }
+    requires changes { AreAmounts (length values.old) CHANGE_SIZE changes.now }
+    requires within { AreWithinLimit values.old }
     ensures { values.new ≡ all_changed changes.now values.old }
 {
     for (number, change) in changes {

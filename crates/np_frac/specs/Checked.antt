@@ -2,7 +2,7 @@
 use Rattle.std.specs.Prelude.{ℕ, suc, ◌*◌, ◌/◌, ◌^◌, ◌<◌, Bool, ◌&&◌, not, T, ℤ, pos, negsuc, neg_ℤ, ◌+ℤ◌, ◌*ℤ◌, ◌<ℤ◌, unsigned_abs, int_div, nat_lt, Option, Some, None, if◌then◌else◌}
 use Rattle.std.specs.Ordering.{int_eq}
 use Rattle.np_frac.specs.Gcd.{gcd}
-use Rattle.np_frac.specs.Fractions.{Fraction, is_lowest, over}
+use Rattle.np_frac.specs.Fractions.{Fraction, is_lowest, over, times}
 
 -- at most 2 ^ 127 - 1 in size
 abbrev pub fits : ℤ → Bool
@@ -19,13 +19,13 @@ pub record IsReduced (num den : ℤ) : Type 0 where
   pub lowest : T (is_lowest num (unsigned_abs den))
 
 -- a whole number over another that isn't 0
-abbrev pub quotient : ℤ → ℤ → Fraction
-quotient n (pos d) = over n d
-quotient n (negsuc d) = over (neg_ℤ n) (suc d)
+abbrev pub ratio : ℤ → ℤ → Fraction
+ratio n (pos d) = over n d
+ratio n (negsuc d) = over (neg_ℤ n) (suc d)
 
 -- n/d, where both numbers fit and d isn't 0
 abbrev pub checked_quotient : ℤ → ℤ → Option Fraction
-checked_quotient n d = if fits n && (fits d && not (int_eq d (pos 0))) then Some (quotient n d) else None
+checked_quotient n d = if fits n && (fits d && not (int_eq d (pos 0))) then Some (ratio n d) else None
 
 -- a/b + c/d, where a * (d / g), c * (b / g), their sum and b * (d / g) fit, g being the greatest common divisor of b and d
 abbrev pub sum_fits : ℤ → ℕ → ℤ → ℕ → ℕ → Bool
@@ -59,8 +59,12 @@ times_fits x y = product_fits x.num x.den y.num y.den (gcd (unsigned_abs x.num) 
 
 -- 1 over a fraction that isn't 0
 unfoldable pub reciprocal : Fraction → Fraction
-reciprocal y = quotient (pos y.den) y.num
+reciprocal y = ratio (pos y.den) y.num
 
 -- whether it is 0
 abbrev pub is_zero : Fraction → Bool
 is_zero y = int_eq y.num (pos 0)
+
+-- the exact quotient; none where the divisor is 0
+abbrev pub quotient : Fraction → Fraction → Option Fraction
+quotient x y = if is_zero y then None else Some (times x (reciprocal y))

@@ -96,7 +96,7 @@ times_comm a b = field (product (frac a) (frac b)) (product (frac b) (frac a)) (
 pub times-one : (a : Fraction) → times a (whole (pos 1)) ≡ a
 times-one a = field (product (frac a) (int (pos 1))) (frac a) (omega arith)
 
--- 0 in front adds nothing
+-- a leading 0 adds nothing
 pub plus_left_zero : (a : Fraction) → plus (whole (pos 0)) a ≡ a
 plus_left_zero a = field (sum (int (pos 0)) (frac a)) (frac a) (omega arith)
 
@@ -123,6 +123,10 @@ times_minus a b c = field (product (frac a) (rest (frac b) (frac c))) (rest (pro
 -- the factor 0 makes 0
 pub times_zero : (a : Fraction) → times a (whole (pos 0)) ≡ whole (pos 0)
 times_zero a = field (product (frac a) (int (pos 0))) (int (pos 0)) (omega arith)
+
+-- 0 times a number is 0
+pub zero_times : (a : Fraction) → times (whole (pos 0)) a ≡ whole (pos 0)
+zero_times a = field (product (int (pos 0)) (frac a)) (int (pos 0)) (omega arith)
 
 -- the same summand on both sides can be left out
 pub plus_cancels : (a b c : Fraction) → plus a c ≡ plus b c → a ≡ b

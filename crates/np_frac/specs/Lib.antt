@@ -6,3 +6,6 @@ pub mod Ring
 pub mod Laws
 pub mod Field
 pub mod Order
+pub mod Quotients
+pub mod Sizes
+pub mod OrderedField

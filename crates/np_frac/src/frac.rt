@@ -2,15 +2,14 @@
 //!
 //! A number *fits* where it is at most `2^127 - 1` in size, so the least `i128` doesn't. Each call that answers `None`
 //! says which whole numbers have to fit; the answers that it gives are exact.
-ghost use Rattle.std.specs.Prelude.{◌≡◌, ◌<◌, ◌^◌, pos, ◌<ℤ◌, unsigned_abs, if◌then◌else◌, IfSome, is_some, not, ◌&&◌};
+ghost use Rattle.std.specs.Prelude.{◌≡◌, ◌<◌, ◌^◌, pos, ◌<ℤ◌, unsigned_abs, if◌then◌else◌, IfSome, Some, is_some, not, ◌&&◌};
 ghost use Rattle.std.specs.Prelude.{◌++◌};
 ghost use Rattle.std.proofs.Common.{rules};
 ghost use Rattle.std.specs.Hash as fed;
 ghost use Rattle.std.specs.Cmp.Rules.{comparing, hashing};
-ghost use Rattle.np_frac.specs.Fractions.{over, fraction_cmp, fraction_eq, plus, minus, times};
-ghost use Rattle.np_frac.specs.Checked.{checked_quotient, checked_sum, checked_product, plus_fits, minus_fits, times_fits, is_zero, reciprocal};
+ghost use Rattle.np_frac.specs.Fractions.{over, whole, fraction_cmp, fraction_eq, plus, minus, times};
+ghost use Rattle.np_frac.specs.Checked.{checked_quotient, checked_sum, checked_product, plus_fits, minus_fits, times_fits, is_zero, reciprocal, quotient};
 ghost use Rattle.std.specs.Ordering.{int_eq};
-ghost use Rattle.np_frac.specs.Fractions.{whole};
 
 use crate::number::{compare_ratios, divided, gcd, negated, product, scaled, sum, times};
 use std::cmp::Ordering;
@@ -117,15 +116,6 @@ impl PartialOrd for Frac {
 }
 
 impl Frac {
-    /// The whole number `num`, which isn't the least `i128`.
-    #[tactic(auto, using(crate::specs::Laws::over_whole))]
-    pub fn whole(num: i128) -> Frac
-        requires { unsigned_abs num < 2 ^ 127 }
-        ensures { result ≡ whole num }
-    {
-        reduce(num, 1)
-    }
-
     /// The fraction `num / den` in lowest terms.
     ///
     /// `None` exactly where `den` is 0 or one of the two is the least `i128`.
@@ -215,6 +205,7 @@ impl Frac {
     /// `None` exactly where `other` is 0 or the product with its reciprocal is `None`.
     pub fn div(&self, other: &Frac) -> Option<Frac>
         ensures value { IfSome result (λ x. x ≡ times self.now (reciprocal other.now)) }
+        ensures quotient { IfSome result (λ x. quotient self.now other.now ≡ Some x) }
         ensures fits { is_some result ≡ (not (is_zero other.now) && times_fits self.now (reciprocal other.now)) }
     {
         self.mul(&other.reciprocal()?)
@@ -237,6 +228,15 @@ impl Frac {
             compare_ratios(a.unsigned_abs(), b, c.unsigned_abs(), d)
         }
     }
+}
+
+/// The whole number `num`.
+#[tactic(auto, using(crate::specs::Laws::over_whole))]
+pub(crate) fn whole(num: i128) -> Frac
+    requires { unsigned_abs num < 2 ^ 127 }
+    ensures { result ≡ whole num }
+{
+    reduce(num, 1)
 }
 
 /// The fraction `num / den` in lowest terms.

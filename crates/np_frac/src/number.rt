@@ -80,7 +80,7 @@ pub fn negated(a: i128) -> i128
     -a
 }
 
-/// The order of `a / b` and `c / d`, by their continued fractions: first the whole parts, then the rests turned over.
+/// The order of `a / b` and `c / d`, by their continued fractions: first the whole parts, then the reciprocals of the remainders.
 pub fn compare_ratios(a: u128, b: u128, c: u128, d: u128) -> Ordering
     requires left { 0 < b }
     requires right { 0 < d }

@@ -79,7 +79,7 @@ noted_kind old new write name h = λ i other.
     (ap (count_by (is_failure (not write) other)) h.last
     ∙ count_same (is_failure (not write) other) old h.failure (other_kind write h.failure other h.is.kind)) i
 
--- a failure that is noted behind an unchanged list
+-- a failure that is noted after an unchanged list
 pub noted_behind : (old same new : List Failure) (failure : Failure) (write : Bool) (name : List ℕ) → same ≡ old → IsFailure failure write name → new ≡ same ++ failure ∷ [] → IsNoted old new write name
 noted_behind old same new failure write name kept is last = record {
   failure = failure;

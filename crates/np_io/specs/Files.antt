@@ -7,25 +7,25 @@ use Rattle.std.specs.Str.{bytes_eq}
 abbrev pub Files : Type 0
 Files = List ℕ → Option (List ℕ)
 
--- the bytes stand under the name, and under each other name what stood there
+-- the bytes are under the name, and under each other name what was there
 pub record HasPut (name bytes : List ℕ) (old new : Files) : Type 0 where
   pub there : new name ≡ Some bytes
   pub others : (other : List ℕ) → bytes_eq name other ≡ false → new other ≡ old other
 
--- a prefix of the bytes stands under the name, and under each other name what stood there
+-- a prefix of the bytes is under the name, and under each other name what was there
 pub record HasPutPrefix (name bytes : List ℕ) (old new : Files) : Type 0 where
   pub kept : ℕ
   pub there : new name ≡ Some (take kept bytes)
   pub others : (other : List ℕ) → bytes_eq name other ≡ false → new other ≡ old other
 
--- where it is told, these bytes stand under the name
+-- where it is told, these bytes are under the name
 abbrev pub IsHeld : Option Files → List ℕ → List ℕ → Type 0
 IsHeld files name bytes = IfSome files (λ f. f name ≡ Some bytes)
 
--- where it is told, more than this many bytes stand under the name
+-- where it is told, more than this many bytes are under the name
 abbrev pub IsLonger : Option Files → List ℕ → ℕ → Type 0
 IsLonger files name limit = IfSome files (λ f. (bytes : List ℕ) × (f name ≡ Some bytes) × (limit < length bytes))
 
--- it is told, and nothing stands under the name
+-- it is told, and nothing is under the name
 abbrev pub IsAbsent : Option Files → List ℕ → Type 0
 IsAbsent files name = IsSomeAnd files (λ f. f name ≡ None)

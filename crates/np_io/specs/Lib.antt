@@ -2,6 +2,7 @@ pub mod Told
 pub mod Files
 pub mod Pushes
 pub mod Counts
+pub mod Seen
 pub mod Failing
 pub mod Failures
 pub mod Held

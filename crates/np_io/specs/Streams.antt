@@ -1,4 +1,4 @@
--- What stands after a write of a whole piece that may have failed.
+-- What is there after a write of a whole piece that may have failed.
 use Rattle.std.specs.Prelude.{ℕ, List, Option, take}
 use Rattle.std.specs.Io.KnownBytes.{Appends}
 

@@ -67,11 +67,7 @@ fn write_file<R: Files>(runtime: &R, name: &str, bytes: &[u8]) -> Result<(), Giv
 }
 
 impl<R: Files> Shelf for FileShelf<R> {
-    ghost files = { λ _. None };
-
-    ghost read_faults = { λ s. failures_of false (noted s) };
-
-    ghost write_faults = { λ s. failures_of true (noted s) };
+    ghost seen = { λ s. record { files = None; read_faults = failures_of false (noted s); write_faults = failures_of true (noted s) } };
 
     fn fetch(&mut self, alloc: Global, name: &str, limit: usize) -> Result<Vec<u8>, Fetch>
         ensures within { IfOk result (λ bytes. length bytes.items ≤ limit) }

@@ -13,8 +13,6 @@ mod out_sink;
 mod shelf;
 mod sink;
 mod stream;
-#[cfg(test)]
-mod tests;
 
 pub use failure::Failure;
 pub use file_shelf::FileShelf;

@@ -156,11 +156,7 @@ impl MemoryShelf {
 }
 
 impl Shelf for MemoryShelf {
-    ghost files = { λ s. Some (held s) };
-
-    ghost read_faults = { λ s. failures_of false (noted s) };
-
-    ghost write_faults = { λ s. failures_of true (noted s) };
+    ghost seen = { λ s. record { files = Some (held s); read_faults = failures_of false (noted s); write_faults = failures_of true (noted s) } };
 
     fn fetch(&mut self, alloc: Global, name: &str, limit: usize) -> Result<Vec<u8>, Fetch>
         ensures within { IfOk result (λ bytes. length bytes.items ≤ limit) }

@@ -74,9 +74,7 @@ impl MemorySink {
 }
 
 impl Sink for MemorySink {
-    ghost pushed = { λ s. Some (pushed_bytes s) };
-
-    ghost faults = { λ s. fault_count s };
+    ghost seen = { λ s. record { pushed = Some (pushed_bytes s); faults = fault_count s } };
 
     fn push(&mut self, bytes: &[u8]) -> Result<(), Give>
         ensures ok { OnOk result

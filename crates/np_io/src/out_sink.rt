@@ -32,9 +32,7 @@ impl<R: Print> OutSink<R> {
 }
 
 impl<R: Print> Sink for OutSink<R> {
-    ghost pushed = { λ _. None };
-
-    ghost faults = { λ s. fault_count s };
+    ghost seen = { λ s. record { pushed = None; faults = fault_count s } };
 
     fn push(&mut self, bytes: &[u8]) -> Result<(), Give>
         ensures failed { IsErrOf result Give.Failed → RoseOnce (fault_count self.old) (fault_count self.new) }

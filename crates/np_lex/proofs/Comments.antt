@@ -17,7 +17,7 @@ pub blanks_from-comment : (bs : List ℕ) → blanks_from true bs ≡ position_o
 blanks_from-comment [] = omega arith
 blanks_from-comment (b ∷ bs) = comment_step b bs (is_line_feed b) refl (blanks_from-comment bs)
 
--- a comment in front, and the blanks behind it
+-- a leading comment, and the blanks after it
 pub blank_length-comment : (bs : List ℕ) → 0 < length bs → get_or bs 0 0 ≡ 59 → blank_length bs ≡ position_or_len is_line_feed bs + blank_length (drop (position_or_len is_line_feed bs) bs)
 blank_length-comment [] some begins = absurd (omega arith)
 blank_length-comment (b ∷ bs) some begins =
@@ -30,7 +30,7 @@ comment-some : (bs : List ℕ) → 0 < length bs → get_or bs 0 0 ≡ 59 → 0 
 comment-some [] some begins = absurd (omega arith)
 comment-some (b ∷ bs) some begins = subst (λ n. 0 < position_or_len is_line_feed (n ∷ bs)) (sym begins) (omega arith)
 
--- passing a comment of k bytes: there are some, and the blanks that are left are those behind it
+-- passing a comment of k bytes: there are some, and the blanks that are left are those after it
 pub record PassesComment (bytes : List ℕ) (n k : ℕ) : Type 0 where
   pub some : 0 < k
   pub so_far : (n + k) + blank_length (drop (n + k) bytes) ≡ n + blank_length (drop n bytes)

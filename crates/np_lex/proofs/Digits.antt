@@ -46,7 +46,7 @@ too_many bytes count many within n small e =
     let size : length (take count bytes) ≡ length (decimal n) = ap length e in
     omega (arith, size, length-take count bytes, length-decimal-le 18 n (omega arith) small (omega arith))
 
--- one more digit of those in front
+-- one more of the leading digits
 pub one_more : (bs : List ℕ) (i total : ℕ) → i < length bs → true ≡ is_ascii_digit (get_or bs i 0) → i + prefix_len is_digit (drop i bs) ≡ total → (i + 1) + prefix_len is_digit (drop (i + 1) bs) ≡ total
 one_more bs i total lt digit so_far = omega (arith, prefix_len-drop_yes is_digit bs i 0 lt (sym digit))
 
@@ -61,7 +61,7 @@ in_range d is = grind (arith, nat_tests)
 lower_digit : (b : ℕ) → IsInRange 48 57 b → to_ascii_lowercase b ≡ b
 lower_digit b h = grind (arith, nat_tests)
 
-lower_digits : (text : List ℕ) → AllDigits 10 text → lower text ≡ text
+pub lower_digits : (text : List ℕ) → AllDigits 10 text → lower text ≡ text
 lower_digits [] h = refl
 lower_digits (b ∷ bs) h =
     ap (λ (c : ℕ). c ∷ lower bs) (lower_digit b (digit_from_value b h.0)) ∙ ap (λ (cs : List ℕ). b ∷ cs) (lower_digits bs h.1)
@@ -72,7 +72,7 @@ decimal_lower n within = lower_digits (decimal n) (decimal_is_IsNumeral_wide n (
 lower_digit_back : (b : ℕ) → IsInRange 48 57 (to_ascii_lowercase b) → to_ascii_lowercase b ≡ b
 lower_digit_back b h = grind (arith, nat_tests)
 
-lower_digits_back : (text : List ℕ) → AllDigits 10 (lower text) → lower text ≡ text
+pub lower_digits_back : (text : List ℕ) → AllDigits 10 (lower text) → lower text ≡ text
 lower_digits_back [] h = refl
 lower_digits_back (b ∷ bs) h =
     ap (λ (c : ℕ). c ∷ lower bs) (lower_digit_back b (digit_from_value (to_ascii_lowercase b) h.0)) ∙ ap (λ (cs : List ℕ). b ∷ cs) (lower_digits_back bs h.1)
@@ -90,7 +90,7 @@ digit_is_digit b h = grind (arith, nat_tests)
 pub first_digit : (b : ℕ) (bs : List ℕ) → AllDigits 10 (b ∷ bs) → is_digit b ≡ true
 first_digit b bs h = digit_is_digit b (digit_from_value b h.0)
 
--- digits that are taken are digits in front
+-- digits that are taken are leading digits
 pub digits_within : (bs : List ℕ) (m : ℕ) → m ≤ length bs → AllDigits 10 (take m bs) → m ≤ prefix_len is_digit bs
 digits_within bs zero within h = omega arith
 digits_within [] (suc m) within h = absurd (omega arith)

@@ -5,9 +5,5 @@ pub mod LineCounts
 pub mod LongestLaw
 pub mod Names
 pub mod NumberFronts
-pub mod Pieces
-pub mod Printed
-pub mod ReaderLaws
 pub mod Readings
-pub mod Shifts
 pub mod Streams

@@ -1,5 +1,5 @@
 -- Lines and columns are no more than the bytes before a place.
-use Rattle.std.proofs.Common.{◌≡◌, ℕ, ◌+◌, ◌<◌, ◌≤◌, ◌^◌, min, List, length, take, not, arith, length-take}
+use Rattle.std.proofs.Common.{◌≡◌, ℕ, ◌+◌, ◌≤◌, List, take, not, arith, length-take}
 use Rattle.std.specs.List.{count_by, suffix_len}
 use Rattle.std.proofs.lemmas.List.Sums.{count_by-le-length, suffix_len-le-length}
 use Rattle.np_lex.specs.declared.token.Place.{Place}
@@ -19,10 +19,3 @@ columns_le n bs = omega (arith, suffix_len-le-length (λ b. not (is_line_feed b)
 -- the place at which so many lines were counted
 pub place_at : (bs : List ℕ) (offset : ℕ) (lines : Lines) → CountsLines lines (take offset bs) → ◌≡◌ {A = Place} (record { offset = offset; line = lines.feeds + 1; column = lines.columns + 1 }) (place_of bs offset)
 place_at bs offset lines counts = λ i. record { offset = offset; line = counts.feeds i + 1; column = counts.columns i + 1 }
-
--- the place of the end of a text of fewer than 2^63 bytes, where lines and columns are counted up to a limit
-pub place_is : (bs : List ℕ) (lines : Lines) (line column : ℕ) → length bs < 2 ^ 63 → CountsLines lines (take (length bs) bs) → line ≡ min (lines.feeds + 1) 18446744073709551615 → column ≡ min (lines.columns + 1) 18446744073709551615 → ◌≡◌ {A = Place} (record { offset = length bs; line = line; column = column }) (place_of bs (length bs))
-place_is bs lines line column within counts line_is column_is =
-    let first : line ≡ count_by is_line_feed (take (length bs) bs) + 1 = omega (arith, counts.feeds, lines_le (length bs) bs) in
-    let second : column ≡ suffix_len (λ b. not (is_line_feed b)) (take (length bs) bs) + 1 = omega (arith, counts.columns, columns_le (length bs) bs) in
-    λ i. record { offset = length bs; line = first i; column = second i }

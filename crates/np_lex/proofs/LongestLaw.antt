@@ -29,14 +29,14 @@ pub or_either : (a b : Bool) → a || b ≡ true → (a ≡ true) ⊎ (b ≡ tru
 or_either true b e = inl refl
 or_either false b e = inr e
 
--- a letter is one of what may stand in a name
+-- a letter is one of the bytes of names
 letter_among : (digit upper lower dash line : Bool) → upper || lower ≡ true → digit || upper || lower || dash || line ≡ true
 letter_among true upper lower dash line e = refl
 letter_among false true lower dash line e = refl
 letter_among false false true dash line e = refl
 letter_among false false false dash line e = cc
 
--- a letter may stand in a name
+-- a letter is a byte of names
 pub is_letter-name_byte : (b : ℕ) → is_letter b ≡ true → is_name_byte b ≡ true
 is_letter-name_byte b letter = letter_among (is_in_range 48 57 b) (is_in_range 65 90 b) (is_in_range 97 122 b) (b == 45) (b == 95) letter
 
@@ -44,24 +44,24 @@ is_letter-name_byte b letter = letter_among (is_in_range 48 57 b) (is_in_range 6
 pub is_digit-letter : (b : ℕ) → is_digit b ≡ true → is_letter b ≡ false
 is_digit-letter b digit = grind (arith, nat_tests)
 
--- the run in front of a list whose elements all pass, and of another behind it
+-- the leading run of a list whose elements all pass, and of another after it
 pub prefix_len-append_all : (p : ℕ → Bool) (xs ys : List ℕ) → list_all p xs ≡ true → prefix_len p (xs ++ ys) ≡ length xs + prefix_len p ys
 prefix_len-append_all p [] ys all = omega arith
 prefix_len-append_all p (x ∷ xs) ys all =
     let rest = prefix_len-append_all p xs ys (and_second (p x) (list_all p xs) all) in
     rw (and_first (p x) (list_all p xs) all) (omega arith)
 
--- what the run in front adds, by its first element
+-- what the leading run adds, by its first element
 list_all-take_cond : (p : ℕ → Bool) (x n : ℕ) (xs : List ℕ) (passes : Bool) → p x ≡ passes → list_all p (take n xs) ≡ true → list_all p (take (cond passes (1 + n) 0) (x ∷ xs)) ≡ true
 list_all-take_cond p x n xs true e rest = let more : 1 + n ≡ suc n = omega arith in rw more (rw (e, rest) refl)
 list_all-take_cond p x n xs false e rest = refl
 
--- the run in front passes
+-- the leading run passes
 list_all-prefix : (p : ℕ → Bool) (xs : List ℕ) → list_all p (take (prefix_len p xs) xs) ≡ true
 list_all-prefix p [] = refl
 list_all-prefix p (x ∷ xs) = list_all-take_cond p x (prefix_len p xs) xs (p x) refl (list_all-prefix p xs)
 
--- the run in front of a list whose first element passes
+-- the leading run of a list whose first element passes
 take-prefix : (p : ℕ → Bool) (x : ℕ) (xs : List ℕ) → p x ≡ true → take (prefix_len p (x ∷ xs)) (x ∷ xs) ≡ x ∷ take (prefix_len p xs) xs
 take-prefix p x xs e = let more : 1 + prefix_len p xs ≡ suc (prefix_len p xs) = omega arith in rw e (rw more refl)
 
@@ -70,7 +70,7 @@ abbrev pub Reaches : ℕ → Option (Kind × ℕ) → Type 0
 Reaches m None = ⊥
 Reaches m (Some token) = m ≤ token.1
 
--- a name in front is part of the run of its bytes
+-- a leading name is part of the run of its bytes
 name_covers : (name rest : List ℕ) → is_name name ≡ true → length name ≤ prefix_len is_name_byte (name ++ rest)
 name_covers [] rest named = cc
 name_covers (b ∷ bs) rest named =
@@ -92,11 +92,11 @@ digits_begin : (text rest : List ℕ) → is_digits text ≡ true → begins_wit
 digits_begin [] rest digits = cc
 digits_begin (b ∷ bs) rest digits = and_first (is_digit b) (list_all is_digit bs) digits
 
--- digits in front are part of the number
+-- leading digits are part of the number
 digits_cover : (text rest : List ℕ) → is_digits text ≡ true → length text ≤ number_length (text ++ rest)
 digits_cover text rest digits = omega (arith, prefix_len-append_all is_digit text rest (digits_all text digits))
 
--- digits with a point and digits in front are part of the number
+-- leading digits with a point and digits are part of the number
 decimal_covers : (whole fraction rest : List ℕ) → is_digits whole ≡ true → is_digits fraction ≡ true → length (whole ++ 46 ∷ fraction) ≤ number_length (whole ++ (46 ∷ (fraction ++ rest)))
 decimal_covers whole fraction rest whole_digits fraction_digits =
     let all : List ℕ = whole ++ (46 ∷ (fraction ++ rest)) in
@@ -105,7 +105,7 @@ decimal_covers whole fraction rest whole_digits fraction_digits =
     ap point_length (drop_at whole (46 ∷ (fraction ++ rest)) (prefix_len is_digit all) (sym run)) ∙ rw (digits_begin fraction rest fraction_digits) refl in
     omega (arith, run, point, length-append whole (46 ∷ fraction), prefix_len-append_all is_digit fraction rest (digits_all fraction fraction_digits))
 
--- a number without a sign in front is part of the number that is taken
+-- a leading number without a sign is part of the number that is taken
 pub unsigned_covers : (text rest : List ℕ) → IsUnsigned text → (begins_with_digit (text ++ rest) ≡ true) × (length text ≤ number_length (text ++ rest))
 unsigned_covers text rest (inl digits) = (digits_begin text rest digits, digits_cover text rest digits)
 unsigned_covers text rest (inr decimal) =
@@ -204,23 +204,23 @@ IsSound-cond : (bs : List ℕ) (c : Bool) (x y : Option (Kind × ℕ)) → (c �
 IsSound-cond bs true x y first second = first refl
 IsSound-cond bs false x y first second = second
 
--- the digits in front are digits
+-- the leading digits are digits
 digits_taken : (bs : List ℕ) → begins_with_digit bs ≡ true → is_digits (take (prefix_len is_digit bs) bs) ≡ true
 digits_taken [] digit = cc
 digits_taken (b ∷ bs) digit = rw (take-prefix is_digit b bs digit) (rw digit (list_all-prefix is_digit bs))
 
--- a name in front is a name
+-- a leading name is a name
 name_taken : (bs : List ℕ) → begins_with_letter bs ≡ true → is_name (take (prefix_len is_name_byte bs) bs) ≡ true
 name_taken [] letter = cc
 name_taken (b ∷ bs) letter = rw (take-prefix is_name_byte b bs (is_letter-name_byte b letter)) (rw letter (list_all-prefix is_name_byte bs))
 
--- the digits in front with a point behind them, if digits follow it
+-- the leading digits with a point after them, if digits follow it
 point_taken : (bs : List ℕ) (p : ℕ) (ps : List ℕ) (point : Bool) → begins_with_digit bs ≡ true → drop (prefix_len is_digit bs) bs ≡ p ∷ ps → p == 46 && begins_with_digit ps ≡ point → IsUnsigned (take (prefix_len is_digit bs + cond point (suc (prefix_len is_digit ps)) 0) bs)
-point_taken bs p ps false digit behind e =
+point_taken bs p ps false digit after e =
     let n : ℕ = prefix_len is_digit bs in
     let none : n + 0 ≡ n = omega arith in
     inl (rw none (digits_taken bs digit))
-point_taken bs p ps true digit behind e =
+point_taken bs p ps true digit after e =
     let n : ℕ = prefix_len is_digit bs in
     let m : ℕ = prefix_len is_digit ps in
     let is_point : p ≡ 46 = eqb-true p 46 (and_first (p == 46) (begins_with_digit ps) e) in
@@ -229,18 +229,18 @@ point_taken bs p ps true digit behind e =
       fraction = take m ps;
       whole_digits = digits_taken bs digit;
       fraction_digits = digits_taken ps (and_second (p == 46) (begins_with_digit ps) e);
-      text_is = take-add n (suc m) bs ∙ ap (λ rest. take n bs ++ take (suc m) rest) behind ∙ ap (λ x. take n bs ++ x ∷ take m ps) is_point;
+      text_is = take-add n (suc m) bs ∙ ap (λ rest. take n bs ++ take (suc m) rest) after ∙ ap (λ x. take n bs ++ x ∷ take m ps) is_point;
     })
 
--- the number in front, by what stands behind its digits
+-- the leading number, by what follows its digits
 number_taken_by : (bs rest : List ℕ) → begins_with_digit bs ≡ true → drop (prefix_len is_digit bs) bs ≡ rest → IsUnsigned (take (prefix_len is_digit bs + point_length rest) bs)
-number_taken_by bs [] digit behind =
+number_taken_by bs [] digit after =
     let n : ℕ = prefix_len is_digit bs in
     let none : n + 0 ≡ n = omega arith in
     inl (rw none (digits_taken bs digit))
-number_taken_by bs (p ∷ ps) digit behind = point_taken bs p ps (p == 46 && begins_with_digit ps) digit behind refl
+number_taken_by bs (p ∷ ps) digit after = point_taken bs p ps (p == 46 && begins_with_digit ps) digit after refl
 
--- the number in front is a number
+-- the leading number is a number
 unsigned_taken : (bs : List ℕ) → begins_with_digit bs ≡ true → IsUnsigned (take (number_length bs) bs)
 unsigned_taken bs digit = number_taken_by bs (drop (prefix_len is_digit bs) bs) digit refl
 
@@ -258,7 +258,7 @@ or_last : (a b : Bool) → b ≡ true → a || b ≡ true
 or_last true b e = refl
 or_last false b e = e
 
--- an order and '=' behind it
+-- an order and '=' after it
 order_equals_sound : (b : ℕ) (bs : List ℕ) → b == 60 || b == 62 ≡ true → begins_with_equals bs ≡ true → is_operator (take 2 (b ∷ bs)) ≡ true
 order_equals_sound b [] order equals = cc
 order_equals_sound b (c ∷ bs) order equals = rw (order, equals) refl
@@ -341,7 +341,7 @@ list_all-append p [] ys first second = second
 list_all-append p (x ∷ xs) ys first second =
     rw (and_first (p x) (list_all p xs) first, list_all-append p xs ys (and_second (p x) (list_all p xs) first) second) refl
 
--- what may stand in a name is ASCII
+-- a byte of names is ASCII
 name_byte_is_ascii : (b : ℕ) → is_name_byte b ≡ true → is_ascii b ≡ true
 name_byte_is_ascii b name = grind (arith, nat_tests)
 

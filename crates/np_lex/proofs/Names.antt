@@ -1,4 +1,4 @@
--- A name in front is the longest token where no byte of a name follows it.
+-- A leading name is the longest token where no byte of a name follows it.
 use Rattle.std.proofs.Common.{◌≡◌, ℕ, suc, ◌+◌, ◌≤◌, Bool, true, false, not, List, [], ◌∷◌, ◌++◌, length, take, drop, Option, None, Some, refl, sym, ◌∙◌, ap, subst, arith, length-take}
 use Rattle.std.specs.Prelude.{◌&&◌}
 use Rattle.std.specs.Char.{to_ascii_lowercase}
@@ -37,7 +37,7 @@ name_token (b ∷ bs) rest e =
     let sizes : suc (prefix_len is_name_byte (bs ++ rest)) ≡ suc (length bs) + prefix_len is_name_byte rest = omega (arith, covered) in
     rw letter (ap (λ (n : ℕ). Some (Name, n)) sizes)
 
--- what begins with no byte of a name has none in front, and the other way round
+-- what begins with no byte of a name begins with no name, and the other way round
 none_in_front : (bs : List ℕ) → begins_with_name_byte bs ≡ false → prefix_len is_name_byte bs ≡ 0
 none_in_front [] e = refl
 none_in_front (b ∷ bs) e = rw e refl

@@ -1,4 +1,4 @@
--- A number in front is the longest token.
+-- A leading number is the longest token.
 use Rattle.std.proofs.Common.{◌≡◌, ℕ, suc, ◌+◌, ◌<◌, ◌≤◌, arith, length, true≢false, Bool, true, false, cond, inl, inr, List, [], ◌∷◌, ◌++◌, take, drop, Option, None, Some, refl, sym, ◌∙◌, ap, subst}
 use Rattle.std.specs.Prelude.{◌==◌, ◌&&◌}
 use Rattle.std.specs.List.{prefix_len}
@@ -39,12 +39,12 @@ number_at b bs n true e is =
     first_token-digit (b ∷ bs) e ∙ ap numbered size
 number_at b bs n false e is = signed_at b bs n (b == 45 && begins_with_digit bs) refl is
 
--- a number in front is the longest token
+-- a leading number is the longest token
 pub number_found : (bs : List ℕ) (n : ℕ) → first_number bs ≡ Some n → first_token bs ≡ Some (Number, n)
 number_found [] n is = absurd cc
 number_found (b ∷ bs) n is = number_at b bs n (is_digit b) refl is
 
--- a digit in front, or '-' and one, begins a number
+-- a leading digit, or '-' and one, begins a number
 digit_begins : (bs : List ℕ) → begins_with_digit bs ≡ true → first_number bs ≡ Some (number_length bs)
 digit_begins [] e = absurd cc
 digit_begins (b ∷ bs) e = rw e refl
@@ -59,7 +59,7 @@ number_begins text rest (inr signed) = (
   ap (λ (t : List ℕ). first_number (t ++ rest)) signed.text_is ∙ minus_begins (signed.rest ++ rest) (unsigned_covers signed.rest rest signed.holds).0,
 )
 
--- where no number is in front, the longest token is none
+-- where no number is leading, the longest token is none
 pub no_number : (bs : List ℕ) (n : ℕ) → first_number bs ≡ None → first_token bs ≡ Some (Number, n) → ⊥
 no_number bs n none first =
     let longest : IsLongestToken Number n bs = subst (TakesLongest bs) first (first_token-longest bs) in
@@ -67,7 +67,7 @@ no_number bs n none first =
     let is : None ≡ Some begun.0 = sym none ∙ ap first_number (sym (take-append-drop n bs)) ∙ begun.1 in
     cc
 
--- digits in front, with no point and digits behind them
+-- leading digits, with no point and digits after them
 alone_at : (b : ℕ) (bs : List ℕ) (n : ℕ) (digit : Bool) → is_digit b ≡ digit → n ≡ prefix_len is_digit (b ∷ bs) → 0 < n → point_length (drop n (b ∷ bs)) ≡ 0 → first_number (b ∷ bs) ≡ Some n
 alone_at b bs n true e size some point =
     let same : number_length (b ∷ bs) ≡ n = ap (λ (m : ℕ). m + point_length (drop m (b ∷ bs))) (sym size) ∙ (let none : n + point_length (drop n (b ∷ bs)) ≡ n = omega (arith, point) in none) in
@@ -80,7 +80,7 @@ pub digits_alone : (bs : List ℕ) (n : ℕ) → n ≡ prefix_len is_digit bs �
 digits_alone [] n size some point = absurd (omega arith)
 digits_alone (b ∷ bs) n size some point = alone_at b bs n (is_digit b) refl size some point
 
--- what the first token says of a number is what is in front
+-- what the first token says of a number is the leading number
 number_by : (bs : List ℕ) (n : ℕ) (found : Option ℕ) → first_number bs ≡ found → first_token bs ≡ numbered n → found ≡ Some n
 number_by bs n None e first = absurd (no_number bs n e first)
 number_by bs n (Some m) e first = ap (λ (k : ℕ). Some k) (size_in m n (sym (number_found bs m e) ∙ first))
@@ -91,7 +91,7 @@ number_is bs n first = number_by bs n (first_number bs) refl first
 some_in : (a b : ℕ) → Some a ≡ Some b → a ≡ b
 some_in a b e = cc
 
--- a number that is all digits is the digits in front
+-- a number that is all digits is the leading digits
 signed_is_no_digits : (b : ℕ) (bs : List ℕ) (m : ℕ) (signed : Bool) → cond signed (Some (suc (number_length bs))) None ≡ Some m → is_digit b ≡ false → AllDigits 10 (take m (b ∷ bs)) → ⊥
 signed_is_no_digits b bs m false e other digits = absurd cc
 signed_is_no_digits b bs m true e other digits =
@@ -108,7 +108,7 @@ digits_by b bs m true e is digits =
     (omega (arith, size, most), omega (arith, size, most))
 digits_by b bs m false e is digits = absurd (signed_is_no_digits b bs m (b == 45 && begins_with_digit bs) is e digits)
 
--- the number in front is all digits: they are those in front, and no point follows them
+-- the leading number is all digits: they are the leading digits, and no point follows them
 pub digits_are : (bs : List ℕ) (m : ℕ) → first_number bs ≡ Some m → AllDigits 10 (take m bs) → (m ≡ prefix_len is_digit bs) × (point_length (drop (prefix_len is_digit bs) bs) ≡ 0)
 digits_are [] m is digits = absurd cc
 digits_are (b ∷ bs) m is digits = digits_by b bs m (is_digit b) refl is digits

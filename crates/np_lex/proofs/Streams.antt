@@ -1,4 +1,4 @@
--- The tokens from an offset on are the next one and those behind it.
+-- The items from an offset on are the next one and those after it.
 use Rattle.std.proofs.Common.{◌≡◌, ℕ, zero, suc, ◌+◌, ◌-◌, ◌<◌, ◌≤◌, Bool, true, false, not, cond, List, [], ◌∷◌, length, drop, Option, None, Some, refl, sym, ◌∙◌, ap, arith, length-drop}
 use Rattle.std.specs.Prelude.{◌==◌, ◌&&◌, IfSome}
 use Rattle.std.specs.List.{prefix_len}
@@ -8,7 +8,7 @@ use Rattle.np_lex.specs.declared.token.Kind.{Kind}
 use Rattle.np_lex.specs.declared.token.Kind.TheVariants.{Left, Right, Name, Variable, Keyword, Colon, Number, Op}
 use Rattle.np_lex.specs.Blanks.{is_line_feed, is_blank, blanks_from, blank_length}
 use Rattle.np_lex.specs.FirstToken.{is_digit, is_name_byte, begins_with_letter, begins_with_digit, begins_with_equals, point_length, number_length, mark_token, first_token}
-use Rattle.np_lex.specs.Tokens.{Span, Next, taken, bad_at, ended, Tokens, tokens_within, tokens_from, next_from, begun_at, taken_at, and_then}
+use Rattle.np_lex.specs.Tokens.{Span, Next, taken, bad_at, ended, Item, items_within, items_from, next_from, begun_at, taken_at, item_then}
 
 -- a choice is within a bound where both sides are
 cond-le : {m : ℕ} (c : Bool) (x y : ℕ) → x ≤ m → y ≤ m → cond c x y ≤ m
@@ -88,16 +88,16 @@ first_token-range (b ∷ bs) =
     let number : is_digit b ≡ true → TakesUpTo m (Some (Number, number_length (b ∷ bs))) = λ digit. takes_some m Number (number_length (b ∷ bs)) (omega (arith, prefix_len-digit b bs digit)) (number_length-le (b ∷ bs)) in
     TakesUpTo-cond m _ _ _ (λ _. named) (TakesUpTo-cond m _ _ _ number (mark_token-range b bs))
 
--- the offset behind what comes next
-abbrev behind_of : Next → ℕ
-behind_of (taken span) = span.to
-behind_of (bad_at offset) = offset
-behind_of ended = 0
+-- the offset after what comes next
+abbrev after_of : Next → ℕ
+after_of (taken span) = span.to
+after_of (bad_at offset) = offset
+after_of ended = 0
 
--- a token that is taken ends behind its begin, and within the bytes
+-- a token that is taken ends after its begin, and within the bytes
 taken_at-range : (start m : ℕ) (found : Option (Kind × ℕ)) (span : Span) → TakesUpTo m found → taken_at start found ≡ taken span → (start < span.to) × (span.to ≤ start + m)
 taken_at-range start m None span range e = cc
-taken_at-range start m (Some token) span range e = (omega (arith, ap behind_of e, range.range.0), omega (arith, ap behind_of e, range.range.1))
+taken_at-range start m (Some token) span range e = (omega (arith, ap after_of e, range.range.0), omega (arith, ap after_of e, range.range.1))
 
 -- the same of what begins at an offset
 begun_at-range : (start : ℕ) (rest : List ℕ) (span : Span) → begun_at start rest ≡ taken span → (start < span.to) × (span.to ≤ start + length rest)
@@ -112,41 +112,41 @@ next_from-range text offset span within e =
     let range = begun_at-range start (drop start text) span e in
     (omega (arith, range.0), omega (arith, range.1, length-drop start text))
 
--- behind the last byte comes the end
+-- after the last byte comes the end
 next_from-end : (text : List ℕ) (offset : ℕ) → length text ≤ offset → next_from text offset ≡ ended
 next_from-end text offset past =
     let start : ℕ = offset + blank_length (drop offset text) in
     ap (begun_at start) (drop_all start text (omega arith))
 
--- what comes next and then the same is the same
-and_then-same : (next : Next) (f g : ℕ → Tokens) → ((span : Span) → next ≡ taken span → f span.to ≡ g span.to) → and_then next f ≡ and_then next g
-and_then-same (taken span) f g same = rw (same span refl) refl
-and_then-same (bad_at offset) f g same = refl
-and_then-same ended f g same = refl
+-- the items are the same where those after what comes next are
+item_then-same : (text : List ℕ) (next : Next) (f g : ℕ → List Item) → ((span : Span) → next ≡ taken span → f span.to ≡ g span.to) → item_then text next f ≡ item_then text next g
+item_then-same text (taken span) f g same = rw (same span refl) refl
+item_then-same text (bad_at offset) f g same = refl
+item_then-same text ended f g same = refl
 
 -- as many tokens as there are bytes are enough
-tokens_within-same : (m n : ℕ) (text : List ℕ) (offset : ℕ) → offset ≤ length text → length text - offset ≤ m → length text - offset ≤ n → tokens_within m text offset ≡ tokens_within n text offset
-unfolding tokens_within
-tokens_within-same zero zero text offset within first second = refl
-tokens_within-same zero (suc n) text offset within first second = rw (next_from-end text offset (omega arith)) refl
-tokens_within-same (suc m) zero text offset within first second = rw (next_from-end text offset (omega arith)) refl
-tokens_within-same (suc m) (suc n) text offset within first second =
-    and_then-same (next_from text offset) _ _
+items_within-same : (m n : ℕ) (text : List ℕ) (offset : ℕ) → offset ≤ length text → length text - offset ≤ m → length text - offset ≤ n → items_within m text offset ≡ items_within n text offset
+unfolding items_within
+items_within-same zero zero text offset within first second = refl
+items_within-same zero (suc n) text offset within first second = rw (next_from-end text offset (omega arith)) refl
+items_within-same (suc m) zero text offset within first second = rw (next_from-end text offset (omega arith)) refl
+items_within-same (suc m) (suc n) text offset within first second =
+    item_then-same text (next_from text offset) _ _
     (λ span e.
     let range = next_from-range text offset span within e in
-    tokens_within-same m n text span.to range.1 (omega (arith, range.0)) (omega (arith, range.0)))
+    items_within-same m n text span.to range.1 (omega (arith, range.0)) (omega (arith, range.0)))
 
--- the tokens from an offset on are the next and those behind it
-pub tokens_from-step : (text : List ℕ) (offset : ℕ) → offset ≤ length text → tokens_from text offset ≡ and_then (next_from text offset) (tokens_from text)
-unfolding tokens_from tokens_within
-tokens_from-step text offset within =
-    tokens_within-same (length text - offset) (suc (length text)) text offset within (omega arith) (omega arith)
-    ∙ and_then-same (next_from text offset) (tokens_within (length text) text) (tokens_from text)
+-- the items from an offset on are the next and those after it
+pub items_from-step : (text : List ℕ) (offset : ℕ) → offset ≤ length text → items_from text offset ≡ item_then text (next_from text offset) (items_from text)
+unfolding items_from items_within
+items_from-step text offset within =
+    items_within-same (length text - offset) (suc (length text)) text offset within (omega arith) (omega arith)
+    ∙ item_then-same text (next_from text offset) (items_within (length text) text) (items_from text)
     (λ span e.
     let range = next_from-range text offset span within e in
-    tokens_within-same (length text) (length text - span.to) text span.to range.1 (omega arith) (omega arith))
+    items_within-same (length text) (length text - span.to) text span.to range.1 (omega arith) (omega arith))
 
--- behind the blanks in front no blank stands
+-- after the leading blanks no blank begins
 blanks_end_by : (b : ℕ) (bs : List ℕ) (comment blank : Bool) → b == 59 ≡ comment → is_blank b ≡ blank → blank_length (drop (blanks_from true bs) bs) ≡ 0 → blank_length (drop (blanks_from false bs) bs) ≡ 0 → blank_length (drop (cond comment (suc (blanks_from true bs)) (cond blank (suc (blanks_from false bs)) 0)) (b ∷ bs)) ≡ 0
 blanks_end_by b bs true blank first second in_comment outside = in_comment
 blanks_end_by b bs false true first second in_comment outside = outside
@@ -157,33 +157,33 @@ blanks_end in_comment [] = refl
 blanks_end true (b ∷ bs) = blanks_end (not (is_line_feed b)) bs
 blanks_end false (b ∷ bs) = blanks_end_by b bs (b == 59) (is_blank b) refl refl (blanks_end true bs) (blanks_end false bs)
 
--- the offset behind the blanks that stand at one
-abbrev pub behind_blanks : List ℕ → ℕ → ℕ
-behind_blanks text n = n + blank_length (drop n text)
+-- the offset after the blanks that begin at one
+abbrev pub after_blanks : List ℕ → ℕ → ℕ
+after_blanks text n = n + blank_length (drop n text)
 
-pub behind_blanks-le : (text : List ℕ) (n : ℕ) → n ≤ length text → behind_blanks text n ≤ length text
-behind_blanks-le text n within = omega (arith, blanks_from-le false (drop n text), length-drop n text)
+pub after_blanks-le : (text : List ℕ) (n : ℕ) → n ≤ length text → after_blanks text n ≤ length text
+after_blanks-le text n within = omega (arith, blanks_from-le false (drop n text), length-drop n text)
 
 pub no_blanks_ahead : (text : List ℕ) → blank_length (drop (blank_length text) text) ≡ 0
 no_blanks_ahead text = blanks_end false text
 
-pub no_blanks_behind : (text : List ℕ) (n : ℕ) → blank_length (drop (behind_blanks text n) text) ≡ 0
-no_blanks_behind text n = ap blank_length (sym (drop-drop (blank_length (drop n text)) n text)) ∙ blanks_end false (drop n text)
+pub no_blanks_after : (text : List ℕ) (n : ℕ) → blank_length (drop (after_blanks text n) text) ≡ 0
+no_blanks_after text n = ap blank_length (sym (drop-drop (blank_length (drop n text)) n text)) ∙ blanks_end false (drop n text)
 
--- what comes next where no blank stands
+-- what comes next where no blank begins
 pub next_from-here : (text : List ℕ) (n : ℕ) → blank_length (drop n text) ≡ 0 → next_from text n ≡ begun_at n (drop n text)
 next_from-here text n none =
     let here : n + blank_length (drop n text) ≡ n = omega (arith, none) in
     ap (λ (m : ℕ). begun_at m (drop m text)) here
 
--- blanks in front change no tokens
-pub tokens_from-blanks : (text : List ℕ) (n : ℕ) → n ≤ length text → tokens_from text (behind_blanks text n) ≡ tokens_from text n
-tokens_from-blanks text n within =
-    tokens_from-step text (behind_blanks text n) (behind_blanks-le text n within)
-    ∙ ap (λ (next : Next). and_then next (tokens_from text)) (next_from-here text (behind_blanks text n) (no_blanks_behind text n))
-    ∙ sym (tokens_from-step text n within)
+-- leading blanks change no items
+pub items_from-blanks : (text : List ℕ) (n : ℕ) → n ≤ length text → items_from text (after_blanks text n) ≡ items_from text n
+items_from-blanks text n within =
+    items_from-step text (after_blanks text n) (after_blanks-le text n within)
+    ∙ ap (λ (next : Next). item_then text next (items_from text)) (next_from-here text (after_blanks text n) (no_blanks_after text n))
+    ∙ sym (items_from-step text n within)
 
-pub tokens_from-start : (text : List ℕ) → tokens_from text (blank_length text) ≡ tokens_from text 0
-tokens_from-start text =
-    let here : blank_length text ≡ behind_blanks text 0 = omega arith in
-    ap (tokens_from text) here ∙ tokens_from-blanks text 0 (omega arith)
+pub items_from-start : (text : List ℕ) → items_from text (blank_length text) ≡ items_from text 0
+items_from-start text =
+    let here : blank_length text ≡ after_blanks text 0 = omega arith in
+    ap (items_from text) here ∙ items_from-blanks text 0 (omega arith)

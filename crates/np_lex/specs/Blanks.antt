@@ -1,4 +1,4 @@
--- What stands between tokens.
+-- What is between tokens.
 use Rattle.std.specs.Prelude.{ℕ, suc, Bool, true, false, not, ◌==◌, ◌||◌, List, [], ◌∷◌, if◌then◌else◌}
 
 -- a space, a tab, a carriage return or a line feed
@@ -9,7 +9,7 @@ is_blank b = b == 32 || b == 9 || b == 13 || b == 10
 abbrev pub is_line_feed : ℕ → Bool
 is_line_feed b = b == 10
 
--- how many bytes in front belong to blanks and comments, where the first byte stands in a comment or not: within a comment each byte
+-- how many leading bytes belong to blanks and comments, where the first byte is in a comment or not: within a comment each byte
 -- belongs to it, up to the line feed; outside of one, a blank does, and ';', which begins a comment
 abbrev pub blanks_from : Bool → List ℕ → ℕ
 blanks_from in_comment [] = 0
@@ -19,6 +19,6 @@ blanks_from false (b ∷ bs) =
     else (if is_blank b then suc (blanks_from false bs)
     else 0)
 
--- how many bytes in front belong to blanks and comments
+-- how many leading bytes belong to blanks and comments
 abbrev pub blank_length : List ℕ → ℕ
 blank_length bytes = blanks_from false bytes

@@ -37,12 +37,12 @@ abbrev pub begins_with_equals : List ℕ → Bool
 begins_with_equals [] = false
 begins_with_equals (b ∷ bs) = b == 61
 
--- the length of a point with digits behind it, or 0
+-- the length of a point with digits after it, or 0
 abbrev pub point_length : List ℕ → ℕ
 point_length [] = 0
 point_length (b ∷ bs) = if b == 46 && begins_with_digit bs then suc (prefix_len is_digit bs) else 0
 
--- the length of the digits in front, and of a point with digits behind them
+-- the length of the leading digits, and of a point with digits after them
 abbrev pub number_length : List ℕ → ℕ
 number_length bytes = prefix_len is_digit bytes + point_length (drop (prefix_len is_digit bytes) bytes)
 
@@ -66,7 +66,7 @@ first_token (b ∷ bs) =
     else (if is_digit b then Some (Number, number_length (b ∷ bs))
     else mark_token b bs)
 
--- the length of the number that is the longest token in front, if one is
+-- the length of the number that is the first token, if it is one
 abbrev pub first_number : List ℕ → Option ℕ
 first_number [] = None
 first_number (b ∷ bs) =

@@ -4,6 +4,4 @@ pub mod FirstToken
 pub mod Lexers
 pub mod Lines
 pub mod LongestToken
-pub mod Printers
-pub mod Readers
 pub mod Tokens

@@ -22,7 +22,7 @@ is_operator (b ∷ []) = b == 60 || b == 62 || b == 61 || b == 43 || b == 42 || 
 is_operator (b ∷ c ∷ []) = (b == 60 || b == 62) && c == 61
 is_operator (b ∷ c ∷ d ∷ bs) = false
 
--- digits with a point and digits behind them
+-- digits with a point and digits after them
 pub record IsDecimal (text : List ℕ) : Type 0 where
   pub whole : List ℕ
   pub fraction : List ℕ
@@ -30,7 +30,7 @@ pub record IsDecimal (text : List ℕ) : Type 0 where
   pub fraction_digits : IsTrue (is_digits fraction)
   pub text_is : text ≡ whole ++ 46 ∷ fraction
 
--- digits, with or without a point and digits behind them
+-- digits, with or without a point and digits after them
 abbrev pub IsUnsigned : List ℕ → Type 0
 IsUnsigned text = IsTrue (is_digits text) ⊎ IsDecimal text
 
@@ -61,7 +61,7 @@ pub record IsLongestToken (kind : Kind) (n : ℕ) (bytes : List ℕ) : Type 0 wh
 pub record BeginsWithNoToken (bytes : List ℕ) : Type 0 where
   pub no_token : (kind : Kind) (text rest : List ℕ) → bytes ≡ text ++ rest → IsToken kind text → ⊥
 
--- what of the bytes in front is the longest token
+-- what is taken of the bytes is the longest token, or no token begins them
 abbrev pub TakesLongest : List ℕ → Option (Kind × ℕ) → Type 0
 TakesLongest bytes None = BeginsWithNoToken bytes
 TakesLongest bytes (Some taken) = IsLongestToken taken.0 taken.1 bytes

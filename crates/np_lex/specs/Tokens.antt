@@ -1,5 +1,5 @@
--- The tokens of a text.
-use Rattle.std.specs.Prelude.{◌≡◌, ℕ, suc, zero, ◌+◌, ◌-◌, List, [], ◌∷◌, ◌++◌, length, not, take, drop, map, Option, None, Some, codes}
+-- The items of a text: its tokens, and what ends it.
+use Rattle.std.specs.Prelude.{◌≡◌, ℕ, suc, zero, ◌+◌, ◌-◌, List, [], ◌∷◌, length, not, take, drop, map, Option, None, Some, codes}
 use Rattle.std.specs.Char.{to_ascii_lowercase}
 use Rattle.std.specs.List.{slice_range, count_by, suffix_len}
 use Rattle.np_lex.specs.declared.token.Kind.{Kind}
@@ -13,7 +13,7 @@ use Rattle.np_lex.specs.FirstToken.{first_token}
 abbrev pub lower : List ℕ → List ℕ
 lower text = map to_ascii_lowercase text
 
--- the name, which is of small letters, is the longest token in front
+-- the name, which is of small letters, is the first token of the bytes
 pub record BeginsWithName (bytes name : List ℕ) : Type 0 where
   pub first : first_token bytes ≡ Some (Name, length name)
   pub text : lower (take (length name) bytes) ≡ name
@@ -26,7 +26,7 @@ place_of bytes offset = record {
   column = suffix_len (λ b. not (is_line_feed b)) (take offset bytes) + 1;
 }
 
--- a token: its kind, the offset of its first byte, and the offset behind its last byte
+-- a token: its kind, the offset of its first byte, and the offset after its last byte
 pub record Span : Type 0 where
   pub kind : Kind
   pub from : ℕ
@@ -47,51 +47,15 @@ abbrev pub taken_at : ℕ → Option (Kind × ℕ) → Next
 taken_at offset None = bad_at offset
 taken_at offset (Some token) = taken (record { kind = token.0; from = offset; to = offset + token.1 })
 
--- what begins at this offset, where no blank and no comment stands
+-- what begins at this offset, where no blank and no comment begins
 abbrev pub begun_at : ℕ → List ℕ → Next
 begun_at offset [] = ended
 begun_at offset (b ∷ bs) = taken_at offset (first_token (b ∷ bs))
 
--- what comes next from this offset of the text on, behind blanks and comments
+-- what comes next from this offset of the text on, after blanks and comments
 abbrev pub next_from : List ℕ → ℕ → Next
 next_from text offset =
     let start = offset + blank_length (drop offset text) in begun_at start (drop start text)
-
--- the tokens of a text up to its end or to the first bad byte, and the offset of that byte
-pub record Tokens : Type 0 where
-  pub tokens : List Span
-  pub bad : Option ℕ
-
--- no token, and no bad byte
-abbrev pub no_tokens : Tokens
-no_tokens = record { tokens = []; bad = None }
-
--- no token, and a bad byte at the offset
-abbrev pub bad_byte_at : ℕ → Tokens
-bad_byte_at offset = record { tokens = []; bad = Some offset }
-
--- the token in front of the others
-abbrev pub with_token : Span → Tokens → Tokens
-with_token span later = record { tokens = span ∷ later.tokens; bad = later.bad }
-
--- what comes next, and then what the function gives at the offset behind it
-abbrev pub and_then : Next → (ℕ → Tokens) → Tokens
-and_then (taken span) later = with_token span (later span.to)
-and_then (bad_at offset) later = bad_byte_at offset
-and_then ended later = no_tokens
-
--- the tokens from this offset of the text on, of which there are at most so many
-unfoldable pub tokens_within : ℕ → List ℕ → ℕ → Tokens
-tokens_within zero text offset = no_tokens
-tokens_within (suc most) text offset = and_then (next_from text offset) (λ behind. tokens_within most text behind)
-
--- the tokens from this offset of the text on: each takes a byte at least
-unfoldable pub tokens_from : List ℕ → ℕ → Tokens
-tokens_from text offset = tokens_within (length text - offset) text offset
-
--- the tokens of a text
-abbrev pub tokens_of : List ℕ → Tokens
-tokens_of text = tokens_from text 0
 
 -- a token without its place: two tokens are the same where their kinds and their lower-cased bytes are
 pub record Lexeme : Type 0 where
@@ -118,29 +82,41 @@ numeral text = record { kind = Number; text = text }
 abbrev pub lexeme_of : List ℕ → Span → Lexeme
 lexeme_of text span = record { kind = span.kind; text = lower (slice_range text span.from span.to) }
 
--- the lexemes of tokens of the text, where no bad byte follows them
-abbrev pub all_lexemes : List ℕ → List Span → Option ℕ → Option (List Lexeme)
-all_lexemes text spans None = Some (map (lexeme_of text) spans)
-all_lexemes text spans (Some offset) = None
-
--- the lexemes of a text; none where it has a bad byte
-abbrev pub lexemes : List ℕ → Option (List Lexeme)
-lexemes text = all_lexemes text (tokens_of text).tokens (tokens_of text).bad
-
--- what a text is made of for its reader: lexemes, and at the end a bad byte, if one stops it
+-- what a text is made of: lexemes, and last a bad byte or the end
 pub data Piece : Type 0 where
   word : Lexeme → Piece
   bad : Piece
+  end : Piece
 
--- the bad byte, if there is one
-abbrev pub bad_end : Option ℕ → List Piece
-bad_end None = []
-bad_end (Some offset) = bad ∷ []
+-- a piece and its place
+pub record Item : Type 0 where
+  pub piece : Piece
+  pub place : Place
 
--- the pieces of tokens of the text
-abbrev pub pieces_in : List ℕ → Tokens → List Piece
-pieces_in text found = map (λ span. word (lexeme_of text span)) found.tokens ++ bad_end found.bad
+-- the piece at this offset of the text
+abbrev pub item_at : List ℕ → ℕ → Piece → Item
+item_at text offset piece = record { piece = piece; place = place_of text offset }
 
--- the pieces of a text
-abbrev pub pieces : List ℕ → List Piece
-pieces text = pieces_in text (tokens_of text)
+-- the item of what comes next, and after a token what the function gives at the offset after it
+abbrev pub item_then : List ℕ → Next → (ℕ → List Item) → List Item
+item_then text (taken span) later = item_at text span.from (word (lexeme_of text span)) ∷ later span.to
+item_then text (bad_at offset) later = item_at text offset bad ∷ []
+item_then text ended later = item_at text (length text) end ∷ []
+
+-- the items from this offset of the text on, of which at most so many are tokens
+unfoldable pub items_within : ℕ → List ℕ → ℕ → List Item
+items_within zero text offset = item_at text (length text) end ∷ []
+items_within (suc most) text offset = item_then text (next_from text offset) (λ after. items_within most text after)
+
+-- the items from this offset of the text on: each token takes a byte at least
+unfoldable pub items_from : List ℕ → ℕ → List Item
+items_from text offset = items_within (length text - offset) text offset
+
+-- the items of a text: its tokens, and last the first bad byte or the end
+abbrev pub items_of : List ℕ → List Item
+items_of text = items_from text 0
+
+-- the place of the first item
+abbrev pub first_place : List Item → Option Place
+first_place [] = None
+first_place (item ∷ items) = Some item.place

@@ -1,4 +1,4 @@
-//! What stands between tokens.
+//! What is between tokens.
 
 ghost use Rattle.std.specs.Prelude.{◌≡◌, ◌≤◌, length};
 ghost use Rattle.std.specs.List.{position_or_len};
@@ -23,7 +23,7 @@ fn line_length(bytes: &[u8]) -> usize
     bytes.len()
 }
 
-/// The number of bytes of the blanks and comments in front. A comment runs from `;` up to the end of the line or of the
+/// The number of bytes of the leading blanks and comments. A comment runs from `;` up to the end of the line or of the
 /// text.
 pub fn blank_length(bytes: &[u8]) -> usize
     ensures value { result ≡ blank_length bytes.now }

@@ -1,4 +1,4 @@
-//! The tokens of the texts that the planner reads: domains, problems and certificates.
+//! The tokens of a text, with their places.
 #![tactic(auto)]
 
 mod blanks;
@@ -9,10 +9,7 @@ mod reading;
 mod token;
 mod words;
 
-pub use numbers::decimal_in_front;
+pub use numbers::first_decimal;
 pub use reading::Lexer;
 pub use token::{BadByte, Kind, Place, Token};
 pub use words::{is_word, lowered};
-
-#[cfg(test)]
-mod tests;

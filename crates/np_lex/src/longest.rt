@@ -1,4 +1,4 @@
-//! The longest token in front.
+//! The longest token that begins some bytes.
 
 ghost use Rattle.std.specs.Prelude.{◌≡◌, ◌↔◌, ◌+◌, ◌≤◌, length, IsTrue, IfSome};
 ghost use Rattle.std.specs.List.{prefix_len};
@@ -62,7 +62,7 @@ fn begins_with_equals(bytes: &[u8]) -> bool
     matches!(bytes, [b'=', ..])
 }
 
-/// The length of a point and the digits behind it, or 0 where there is none.
+/// The length of a point and the digits after it, or 0 where there is none.
 pub fn point_length(bytes: &[u8]) -> usize
     ensures value { result ≡ point_length bytes.now }
     ensures in_range { result ≤ length bytes.now }
@@ -116,7 +116,7 @@ pub fn first_token(bytes: &[u8]) -> Option<(Kind, usize)>
     }
 }
 
-/// Whether the longest token in front is this name, which is of small letters and read in any case.
+/// Whether the first token is this name, which is of small letters and read in any case.
 #[inline(always)]
 pub fn begins_with_name(bytes: &[u8], name: &[u8]) -> bool
     requires name { IsTrue (is_name name.now) }
@@ -130,7 +130,7 @@ pub fn begins_with_name(bytes: &[u8], name: &[u8]) -> bool
     is_small_word(front, name) && !begins_with_name_byte(rest)
 }
 
-/// The length of the number that is the longest token in front, if one is.
+/// The length of the number that is the first token, if it is one.
 pub fn first_number(bytes: &[u8]) -> Option<usize>
     ensures value { result ≡ first_number bytes.now }
     ensures in_range { IfSome result (λ length_taken. length_taken ≤ length bytes.now) }

@@ -7,18 +7,19 @@ ghost use Rattle.np_lex.specs.Lines.{CountsLines};
 use crate::blanks::blank_length;
 use crate::lines::Lines;
 use crate::longest::{begins_with_name, first_number, first_token};
-use crate::numbers::natural_in_front;
+use crate::numbers::first_natural;
 use crate::token::{BadByte, Place, Token};
 
 /// Reads the tokens of a text. It takes no memory, and a copy of it looks ahead.
 #[derive(Clone, Copy, Debug)]
 pub struct Lexer<'a> {
     bytes: &'a [u8],
-    // The offset of the next byte: what stands before it was read, and neither a blank nor a comment begins there.
+    // What is before this offset was read, and neither a blank nor a comment begins here.
     offset: usize,
     // Lines are counted where a place is asked for. They were counted up to this offset, and `lines` are those before it.
     counted: usize,
     lines: Lines,
+    ghost short: { length bytes.now < 2 ^ 63 },
     ghost in_range: { offset ≤ length bytes.now },
     ghost no_blank_next: { blank_length (drop offset bytes.now) ≡ 0 },
     ghost counted_in_range: { counted ≤ offset },
@@ -26,19 +27,18 @@ pub struct Lexer<'a> {
 }
 
 impl<'a> Lexer<'a> {
-    ghost use Rattle.std.specs.Prelude.{◌↔◌, IsTrue, IfOk, IfErr, IfSome, IfNone, false, decimal};
+    ghost use Rattle.std.specs.Prelude.{◌↔◌, IsTrue, IfOk, IfErr, IfSome, IfNone, Some, false, decimal};
     ghost use Rattle.std.specs.List.{slice_range};
     ghost use Rattle.np_lex.specs.LongestToken.{is_name};
     ghost use Rattle.np_lex.specs.declared.token.Kind.TheVariants.{Number};
-    ghost use Rattle.np_lex.specs.Tokens.{place_of, tokens_of, pieces, lower, left, right, named, numeral};
-    ghost use Rattle.np_lex.specs.Lexers.{bytes_of, tokens_left, pieces_left, GivesToken, FindsEnd, FindsBadByte, IsNextByte, IsShortNatural, Takes, Leaves};
+    ghost use Rattle.np_lex.specs.Tokens.{place_of, items_of, first_place, lower, left, right, named, numeral};
+    ghost use Rattle.np_lex.specs.Lexers.{bytes_of, items_left, GivesToken, FindsEnd, FindsBadByte, IsNextByte, IsShortNatural, Takes, Leaves};
 
     /// Reads the text from its first byte on.
-    #[tactic(auto, unfolding(crate::specs::Lexers::bytes_of, crate::specs::Lexers::tokens_left, crate::specs::Lexers::pieces_left))]
+    #[tactic(auto, unfolding(crate::specs::Lexers::bytes_of, crate::specs::Lexers::items_left))]
     pub fn new(bytes: &'a [u8]) -> Lexer<'a>
         ensures bytes { bytes_of result ≡ bytes.now }
-        ensures tokens { tokens_left result ≡ tokens_of bytes.now }
-        ensures pieces { pieces_left result ≡ pieces bytes.now }
+        ensures items { items_left result ≡ items_of bytes.now }
     {
         Lexer {
             bytes,
@@ -51,7 +51,7 @@ impl<'a> Lexer<'a> {
         }
     }
 
-    /// The next token, behind blanks and comments: the longest that begins there. None at the end of the text. `BadByte`
+    /// The next token, after blanks and comments: the longest that begins there. None at the end of the text. `BadByte`
     /// where no token begins at the next byte. After the end or a bad byte every call answers the same.
     pub fn next(&mut self) -> Result<Option<Token>, BadByte>
         ensures bytes { bytes_of self.new ≡ bytes_of self.old }
@@ -64,19 +64,15 @@ impl<'a> Lexer<'a> {
         if rest.is_empty() {
             return Ok(None);
         }
-        let lines = self.lines_before(from);
-        let place = Place {
-            offset: from,
-            line: lines.feeds + 1,
-            column: lines.columns + 1,
-        };
+        let lines = self.lines_so_far();
+        let place = self.place_by(lines);
         let Some((kind, length)) = first_token(rest) else {
             return Err(BadByte { place });
         };
         let to = from + length;
         *self = Lexer {
             bytes: self.bytes,
-            offset: self.behind_blanks(to),
+            offset: self.after_blanks(to),
             counted: from,
             lines,
         };
@@ -86,6 +82,15 @@ impl<'a> Lexer<'a> {
             to,
             place,
         }))
+    }
+
+    /// The place of what comes next: of a token, of a bad byte, or of the end, which is after the last byte.
+    #[cold]
+    #[inline(never)]
+    pub fn place(&self) -> Place
+        ensures { first_place (items_left self.now) ≡ Some result }
+    {
+        self.place_by(self.lines_so_far())
     }
 
     /// Whether an opening bracket comes next. If so it was read, else the lexer is as before.
@@ -145,7 +150,7 @@ impl<'a> Lexer<'a> {
         ensures stays { IfNone result (self.new ≡ self.old) }
         ensures other { IfNone result (Leaves self.old self.new IsShortNatural) }
     {
-        let (number, length) = natural_in_front(&self.bytes[self.offset..])?;
+        let (number, length) = first_natural(&self.bytes[self.offset..])?;
         self.pass(length);
         Some(number)
     }
@@ -168,31 +173,14 @@ impl<'a> Lexer<'a> {
         &self.bytes[token.from..token.to]
     }
 
-    /// The place behind the last byte.
-    #[tactic(auto, unfolding(crate::specs::Lexers::bytes_of))]
-    pub fn end(&self) -> Place
-        ensures offset { result.offset ≡ length (bytes_of self.now) }
-        ensures place { length (bytes_of self.now) < 2 ^ 63 → result ≡ place_of (bytes_of self.now) (length (bytes_of self.now)) }
-    {
-        let offset = self.bytes.len();
-        let lines = self.lines_before(offset);
-        Place {
-            offset,
-            line: lines.feeds.saturating_add(1),
-            column: lines.columns.saturating_add(1),
-        }
-    }
-
-    /// The lines before this offset.
+    /// The lines before the offset.
     #[tactic(auto, using(crate::proofs::LineCounts::lines_le, crate::proofs::LineCounts::columns_le))]
-    fn lines_before(&self, to: usize) -> Lines
-        requires ordered { self.now.offset ≤ to }
-        requires in_range { to ≤ length self.now.bytes.now }
-        ensures { CountsLines result (take to self.now.bytes.now) }
+    fn lines_so_far(&self) -> Lines
+        ensures { CountsLines result (take self.now.offset self.now.bytes.now) }
     {
         let mut feeds = self.lines.feeds;
         let mut columns = self.lines.columns;
-        for offset in self.counted..to {
+        for offset in self.counted..self.offset {
             if self.bytes[offset] == b'\n' {
                 feeds += 1;
                 columns = 0;
@@ -203,9 +191,21 @@ impl<'a> Lexer<'a> {
         Lines { feeds, columns }
     }
 
-    /// The offset behind the blanks and comments that stand at this one.
+    /// The place of the offset, by the lines before it.
+    fn place_by(&self, lines: Lines) -> Place
+        requires { CountsLines lines (take self.now.offset self.now.bytes.now) }
+        ensures { result ≡ place_of self.now.bytes.now self.now.offset }
+    {
+        Place {
+            offset: self.offset,
+            line: lines.feeds + 1,
+            column: lines.columns + 1,
+        }
+    }
+
+    /// The offset after the blanks and comments that begin at this one.
     #[inline(always)]
-    fn behind_blanks(&self, from: usize) -> usize
+    fn after_blanks(&self, from: usize) -> usize
         requires { from ≤ length self.now.bytes.now }
         ensures value { result ≡ from + blank_length (drop from self.now.bytes.now) }
         ensures in_range { result ≤ length self.now.bytes.now }
@@ -214,7 +214,7 @@ impl<'a> Lexer<'a> {
         from + blank_length(&self.bytes[from..])
     }
 
-    /// Passes so many bytes, and the blanks and comments behind them.
+    /// Passes so many bytes, and the blanks and comments after them.
     #[inline(always)]
     fn pass(&mut self, size: usize)
         requires { self.old.offset + size ≤ length self.old.bytes.now }
@@ -223,7 +223,7 @@ impl<'a> Lexer<'a> {
     {
         *self = Lexer {
             bytes: self.bytes,
-            offset: self.behind_blanks(self.offset + size),
+            offset: self.after_blanks(self.offset + size),
             counted: self.counted,
             lines: self.lines,
         };

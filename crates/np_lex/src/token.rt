@@ -24,11 +24,11 @@ pub enum Kind {
     Variable,
     /// `:` and a name.
     Keyword,
-    /// `:` with no letter behind it.
+    /// `:` with no letter after it.
     Colon,
-    /// Digits, with an optional `-` in front, and an optional point and digits behind.
+    /// An optional `-`, digits, and an optional point and digits.
     Number,
-    /// `<=`, `>=`, `<`, `>`, `=`, `+`, `*`, `/`, or `-` with no digit behind it.
+    /// `<=`, `>=`, `<`, `>`, `=`, `+`, `*`, `/`, or `-` with no digit after it.
     Op,
 }
 
@@ -39,7 +39,7 @@ pub struct Token {
     pub kind: Kind,
     /// The offset of its first byte.
     pub from: usize,
-    /// The offset behind its last byte.
+    /// The offset after its last byte.
     pub to: usize,
     /// The place of its first byte.
     pub place: Place,

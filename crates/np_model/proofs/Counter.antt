@@ -1,10 +1,9 @@
 -- A task with a metric: `inc` adds 3 to x and costs 2, `dec` takes 1 from x where x >= 1 and costs 1; the goal is x = 4.
 -- The cost c is given no value, so it is 0 at the start.
-use Rattle.std.proofs.Common.{◌≡◌, ℕ, ℤ, pos, negsuc, ◌+ℤ◌, Bool, true, false, refl, ◌∙◌, ap, arith, [], ◌∷◌, map}
+use Rattle.std.proofs.Common.{◌≡◌, ℕ, ℤ, pos, negsuc, ◌+ℤ◌, Bool, true, false, refl, ◌∙◌, ap, arith, List, [], ◌∷◌, map}
 use Rattle.std.specs.Prelude.{Some, None, codes, if◌then◌else◌}
-use Rattle.std.specs.Option.{option_or}
 use Rattle.std.specs.Ordering.{is_ge, int_cmp}
-use Rattle.np_frac.specs.Fractions.{Fraction, whole, plus}
+use Rattle.np_frac.specs.Fractions.{whole, plus}
 use Rattle.np_frac.specs.Field.{int, sum, rest, field, plus_left_zero, whole_plus, whole_minus}
 use Rattle.np_frac.specs.Order.{whole_cmp}
 use Rattle.np_model.specs.declared.task.Op.TheVariants.{AtLeast, Equal}
@@ -14,10 +13,10 @@ use Rattle.np_model.specs.declared.task.Cond.TheVariants as cond
 use Rattle.np_model.specs.declared.task.Eff.{Eff}
 use Rattle.np_model.specs.declared.task.Eff.TheVariants as eff
 use Rattle.np_model.specs.declared.task.Step.{Step}
-use Rattle.np_model.specs.declared.task.Task.{Task}
-use Rattle.np_model.specs.Ground.{same_term, same_term-Decides, term_of}
+use Rattle.np_model.specs.declared.task.TaskParts.{TaskParts}
+use Rattle.np_model.specs.Ground.{same_term, same_term-Decides}
 use Rattle.np_model.specs.States.{State, value_among}
-use Rattle.np_model.specs.Values.{of_both, sum_of, some_read_from}
+use Rattle.np_model.specs.Values.{of_both, sum_of, terms_from}
 use Rattle.np_model.specs.Steps.{amount_of, next}
 use Rattle.np_model.specs.Plans.{start_of, run_from, IsPlan}
 use Rattle.np_model.proofs.Same.{same_state}
@@ -34,7 +33,7 @@ c = record { function = 1; objects = [] }
 abbrev pub changed : Bool → ℕ → ℕ → Eff
 changed up function n = eff.Change up function [] (expr.Number (whole (pos n)))
 
-abbrev pub counter : Task
+abbrev pub counter : TaskParts
 counter = record {
   types = record { name = codes "object"; parent = 0 } ∷ [];
   objects = [];
@@ -114,16 +113,10 @@ no_dec n m h =
     let s : State = at n m in
     rw (value_of-Value [] s 0 [], value_of-Number [] s (whole (pos 1)), whole_cmp n (pos 1), h) refl
 
-first_values : (is_x is_c : Bool) (u v : Fraction) → option_or (if is_x then Some u else None) (if is_c then Some v else None) ≡ (if is_x then Some u else if is_c then Some v else None)
-first_values true is_c u v = refl
-first_values false is_c u v = refl
-
 -- x and c are 0 at the start
 pub starts_at : start_of counter ≡ at (pos 0) (pos 0)
 unfolding start_of
-starts_at =
-    same_state _ _ (λ a. refl)
-    (λ t. rw (fold-Value Bool (some_read_from (λ function refs. same_term t (term_of [] function refs))) 1 []) (first_values (same_term t x) (same_term t c) (whole (pos 0)) (whole (pos 0))))
+starts_at = same_state _ _ (λ a. refl) (λ t. rw (fold-Value (List Term) terms_from 1 []) refl)
 
 -- inc, inc, dec, dec is a plan of cost 6
 pub plan_of_four : IsPlan counter (inc ∷ inc ∷ dec ∷ dec ∷ []) (whole (pos 6))

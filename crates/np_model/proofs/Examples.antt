@@ -1,8 +1,7 @@
 -- The definitions at small tasks, worked by hand: each fact is one that planning by these rules must have.
 use Rattle.std.proofs.Common.{◌≡◌, ℤ, pos, ◌+ℤ◌, Bool, true, false, refl, ◌∙◌, ap, arith, [], ◌∷◌, map}
 use Rattle.std.specs.Prelude.{if◌then◌else◌, Some, None, codes}
-use Rattle.std.specs.Option.{option_or}
-use Rattle.np_frac.specs.Fractions.{Fraction, whole, plus}
+use Rattle.np_frac.specs.Fractions.{whole, plus}
 use Rattle.np_frac.specs.Field.{int, sum, field, whole_plus}
 use Rattle.np_frac.specs.Order.{whole_cmp}
 use Rattle.np_model.specs.declared.task.Op.TheVariants.{AtLeast}
@@ -11,7 +10,7 @@ use Rattle.np_model.specs.declared.task.Cond.TheVariants as cond
 use Rattle.np_model.specs.declared.task.Eff.{Eff}
 use Rattle.np_model.specs.declared.task.Eff.TheVariants as eff
 use Rattle.np_model.specs.declared.task.Step.{Step}
-use Rattle.np_model.specs.declared.task.Task.{Task}
+use Rattle.np_model.specs.declared.task.TaskParts.{TaskParts}
 use Rattle.np_model.specs.Ground.{same_term}
 use Rattle.np_model.specs.States.{State}
 use Rattle.np_model.specs.Values.{of_both, sum_of}
@@ -21,7 +20,7 @@ use Rattle.np_model.proofs.Same.{same_state}
 use Rattle.np_model.proofs.Expressions.{value_of-Number, value_of-Value}
 
 -- a task with one value x, which is 0 at the start, and one action, which adds 1 to it; the goal is x >= 3
-abbrev count : Task
+abbrev count : TaskParts
 count = record {
   types = record { name = codes "object"; parent = 0 } ∷ [];
   objects = [];
@@ -61,14 +60,10 @@ next_up n =
     rw (value_of-Number [] (at n) (whole (pos 1)))
     (ap Some (same_state _ _ (λ a. refl) (λ t. value_grown n (at n) (same_term t (record { function = 0; objects = [] })))))
 
-or_none : (b : Bool) (x : Fraction) → option_or (if b then Some x else None) None ≡ (if b then Some x else None)
-or_none true x = refl
-or_none false x = refl
-
 -- x is 0 at the start
 pub starts_at : start_of count ≡ at (pos 0)
 unfolding start_of
-starts_at = same_state _ _ (λ a. refl) (λ t. or_none (same_term t (record { function = 0; objects = [] })) (whole (pos 0)))
+starts_at = same_state _ _ (λ a. refl) (λ t. refl)
 
 -- up three times reaches the goal, at a cost of 3
 pub three_ups : IsPlan count (up ∷ up ∷ up ∷ []) (whole (pos 3))

@@ -1,62 +1,36 @@
 -- Which tasks are well-formed: the counter is, and a task without the type `object` isn't.
-use Rattle.std.proofs.Common.{◌≡◌, ◌≢◌, ℕ, zero, suc, ◌<◌, Bool, true, false, refl, sym, ◌∙◌, ap, arith, lit<, List, [], ◌∷◌}
-use Rattle.std.specs.Prelude.{pos, bytes_eq, codes, IsTrue, All, slice_get}
+use Rattle.std.proofs.Common.{◌≡◌, ℕ, zero, suc, ◌<◌, Bool, true, false, refl, sym, ◌∙◌, ap, arith, lit<, List, []}
+use Rattle.std.specs.Prelude.{pos, codes, IsTrue, slice_get}
 use Rattle.std.proofs.lemmas.Option.{none-some, same_Some}
-use Rattle.std.proofs.lemmas.Slice.Eq.{bytes_eq-Decides}
 use Rattle.std.proofs.Math.Bool.{and-true}
-use Rattle.std.proofs.lemmas.List.Elements.{All-cons, All-nil}
-use Rattle.std.proofs.lemmas.List.Kept.{AllPairs-cons}
 use Rattle.np_frac.specs.Fractions.{Fraction, whole}
 use Rattle.np_model.specs.declared.task.Ref.{Ref}
 use Rattle.np_model.specs.declared.task.Sum.TheVariants as expr
 use Rattle.np_model.specs.declared.task.Op.{Op}
 use Rattle.np_model.specs.declared.task.Op.TheVariants.{AtLeast, Equal}
 use Rattle.np_model.specs.declared.task.Cond.TheVariants.{Compare}
-use Rattle.np_model.specs.declared.task.Task.{Task}
+use Rattle.np_model.specs.declared.task.TaskParts.{TaskParts}
 use Rattle.np_model.specs.Values.{every_read, every_read_from}
 use Rattle.np_model.specs.Types.{is_under}
 use Rattle.np_model.specs.Names.{is_name}
-use Rattle.np_model.specs.Tasks.{is_ground_atom, is_ground_term, is_sum, is_use, is_condition, is_effect, has_parts_from, is_fixed, names_function, AreDistinct, IsSignature, IsAction, FixedIsStatic, IsTask}
+use Rattle.np_model.specs.Tasks.{is_ground_atom, is_ground_term, is_sum, is_use, is_condition, is_effect, has_parts_from, depth_from, is_fixed, names_function, IsSignature, IsAction, FixedIsStatic, IsTask}
 use Rattle.np_model.proofs.Expressions.{fold-Number, fold-Value}
+use Rattle.np_model.proofs.Distinct.{none, alone, two, distinct_none, distinct_one, distinct_two, texts_differ}
 use Rattle.np_model.proofs.Counter.{counter, changed, x}
 
--- a number stands anywhere
-pub is_sum-Number : (task : Task) (parameters : List ℕ) (n : Fraction) → is_sum task parameters (expr.Number n) ≡ true
-is_sum-Number task parameters n = rw (fold-Number Bool (every_read_from (is_use task task.functions parameters)) n, fold-Number Bool has_parts_from n) refl
+-- a number is allowed anywhere
+pub is_sum-Number : (task : TaskParts) (parameters : List ℕ) (n : Fraction) → is_sum task parameters (expr.Number n) ≡ true
+is_sum-Number task parameters n = rw (fold-Number Bool (every_read_from (is_use task task.functions parameters)) n, fold-Number Bool has_parts_from n, fold-Number ℕ depth_from n) refl
 
--- a term stands where its function and its arguments do
-pub is_sum-Value : (task : Task) (parameters : List ℕ) (function : ℕ) (refs : List Ref) → is_sum task parameters (expr.Value function refs) ≡ is_use task task.functions parameters function refs
+-- a term is allowed where its function and its arguments are
+pub is_sum-Value : (task : TaskParts) (parameters : List ℕ) (function : ℕ) (refs : List Ref) → is_sum task parameters (expr.Value function refs) ≡ is_use task task.functions parameters function refs
 is_sum-Value task parameters function refs =
-    rw (fold-Value Bool (every_read_from (is_use task task.functions parameters)) function refs, fold-Value Bool has_parts_from function refs)
+    rw (fold-Value Bool (every_read_from (is_use task task.functions parameters)) function refs, fold-Value Bool has_parts_from function refs, fold-Value ℕ depth_from function refs)
     (and-true (is_use task task.functions parameters function refs))
 
 -- a number reads nothing
 pub reads_nothing : (test : ℕ → List Ref → Bool) (n : Fraction) → every_read test (expr.Number n) ≡ true
 reads_nothing test n = fold-Number Bool (every_read_from test) n
-
-none : {A : Type 0} (P : A → Type 0) → All P []
-none P = All-nil P
-
-alone : {A : Type 0} (P : A → Type 0) (a : A) → P a → All P (a ∷ [])
-alone P a h = All-cons P a [] h (All-nil P)
-
-two : {A : Type 0} (P : A → Type 0) (a b : A) → P a → P b → All P (a ∷ b ∷ [])
-two P a b h k = All-cons P a (b ∷ []) h (alone P b k)
-
-distinct_none : {A : Type 0} → AreDistinct {A = A} []
-distinct_none i j d less within = absurd (omega arith)
-
-distinct_one : {A : Type 0} (a : A) → AreDistinct (a ∷ [])
-distinct_one a = AllPairs-cons (λ x y. x ≢ y) a [] (none (λ y. a ≢ y)) distinct_none
-
-distinct_two : {A : Type 0} (a b : A) → a ≢ b → AreDistinct (a ∷ b ∷ [])
-distinct_two a b h = AllPairs-cons (λ x y. x ≢ y) a (b ∷ []) (alone (λ y. a ≢ y) b h) (distinct_one b)
-
-texts_differ : (xs ys : List ℕ) → bytes_eq xs ys ≡ false → xs ≢ ys
-texts_differ xs ys e same = true_is_false (sym ((bytes_eq-Decides xs ys).1 same) ∙ e)
-  where
-    true_is_false : true ≡ false → ⊥
-    true_is_false h = cc
 
 -- effects that change a value by a number, and comparisons of a value with a number
 changes_formed : (up : Bool) (function n : ℕ) → is_use counter counter.functions [] function [] ≡ true → is_effect counter [] (changed up function n) ≡ true
@@ -121,5 +95,5 @@ counter_is_a_task = record {
 }
 
 -- no task without types is well-formed
-pub no_task_without_types : (task : Task) → task.types ≡ [] → ¬ IsTask task
+pub no_task_without_types : (task : TaskParts) → task.types ≡ [] → ¬ IsTask task
 no_task_without_types task e t = none-some _ (sym (ap (λ ts. slice_get ts 0) e) ∙ t.types.first)

@@ -1,8 +1,17 @@
 pub mod Same
+pub mod Distinct
+pub mod Words
 pub mod Sums
+pub mod Folds
 pub mod Expressions
+pub mod Depths
 pub mod Comparing
 pub mod Runs
+pub mod Lists
+pub mod Starts
+pub mod Unchanged
+pub mod Leading
+pub mod LookUps
 pub mod Examples
 pub mod Rules
 pub mod Counter

@@ -1,9 +1,9 @@
 -- Comparisons, conditions, references, arithmetic, types and names at small cases, worked by hand.
-use Rattle.std.proofs.Common.{◌≡◌, ℕ, pos, Bool, true, false, refl, ◌∙◌, ap, lit<, List, [], ◌∷◌}
-use Rattle.std.specs.Prelude.{Some, None, codes, not}
+use Rattle.std.proofs.Common.{◌≡◌, pos, Bool, true, false, refl, ◌∙◌, ap, lit<, List, [], ◌∷◌}
+use Rattle.std.specs.Prelude.{Some, codes, not}
 use Rattle.std.specs.Ordering.{is_lt, is_gt, is_le, is_ge, is_eq, int_eq}
 use Rattle.std.proofs.Math.Bool.{and-false}
-use Rattle.np_frac.specs.Fractions.{Fraction, whole, over, times}
+use Rattle.np_frac.specs.Fractions.{whole, over, times}
 use Rattle.np_frac.specs.Checked.{reciprocal, is_zero}
 use Rattle.np_frac.specs.Order.{whole_cmp}
 use Rattle.np_frac.specs.Field.{whole_times, whole_num}

@@ -1,5 +1,5 @@
 -- The rules of planning at small actions, each fact worked by hand.
-use Rattle.std.proofs.Common.{arith, ◌≡◌, ℕ, pos, Bool, true, false, refl, ◌∙◌, ap, List, [], ◌∷◌}
+use Rattle.std.proofs.Common.{arith, ◌≡◌, ℕ, pos, true, false, refl, ◌∙◌, ap, List, [], ◌∷◌}
 use Rattle.std.specs.Prelude.{Some, None, codes}
 use Rattle.std.specs.List.{list_any}
 use Rattle.std.specs.Ordering.{int_eq}
@@ -17,9 +17,9 @@ use Rattle.np_model.specs.declared.task.Eff.{Eff}
 use Rattle.np_model.specs.declared.task.Eff.TheVariants as eff
 use Rattle.np_model.specs.declared.task.Action.{Action}
 use Rattle.np_model.specs.declared.task.Step.{Step}
-use Rattle.np_model.specs.declared.task.Task.{Task}
+use Rattle.np_model.specs.declared.task.TaskParts.{TaskParts}
 use Rattle.np_model.specs.States.{State}
-use Rattle.np_model.specs.Values.{value_of}
+use Rattle.np_model.specs.Values.{value_of, terms_from}
 use Rattle.np_model.specs.Conditions.{holds}
 use Rattle.np_model.specs.Steps.{is_step, adds, is_applicable, result_of}
 use Rattle.np_model.specs.Plans.{start_of}
@@ -80,13 +80,13 @@ pub never_applicable : (s : State) → is_applicable (doing (eff.Change true 0 [
 never_applicable s = rw (one_over_zero_is_none s) refl
 
 -- a term that the metric reads and that is given no value is 0 at the start
-pub metric_starts_at_zero : (task : Task) → task.metric ≡ Some (expr.Value 0 []) → task.values ≡ [] → (start_of task).value x ≡ Some (whole (pos 0))
+pub metric_starts_at_zero : (task : TaskParts) → task.metric ≡ Some (expr.Value 0 []) → task.values ≡ [] → (start_of task).value x ≡ Some (whole (pos 0))
 unfolding start_of
-metric_starts_at_zero task e f = rw (e, f, fold-Value Bool _ 0 []) refl
+metric_starts_at_zero task e f = rw (e, f, fold-Value (List Term) terms_from 0 []) refl
 
 -- types object, place, vehicle and truck, a truck being a vehicle; objects home, a place, and t, a truck; one action, which takes
 -- a vehicle and a place
-abbrev pub roads : Task
+abbrev pub roads : TaskParts
 roads = record {
   types =
       record { name = codes "object"; parent = 0 } ∷ record { name = codes "place"; parent = 0 }

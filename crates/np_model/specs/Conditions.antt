@@ -20,6 +20,23 @@ compares AtMost x y = is_le (fraction_cmp x y)
 compares AtLeast x y = is_ge (fraction_cmp x y)
 compares Equal x y = is_eq (fraction_cmp x y)
 
+-- the comparison turned round, which `not` round an order comparison stands for: not less is at least.
+-- `Equal` isn't an order comparison, none turns it round, and it stays
+abbrev pub turned : Op → Op
+turned Less = AtLeast
+turned Greater = AtMost
+turned AtMost = Greater
+turned AtLeast = Less
+turned Equal = Equal
+
+-- whether it is an order comparison
+abbrev pub is_order : Op → Bool
+is_order Less = true
+is_order Greater = true
+is_order AtMost = true
+is_order AtLeast = true
+is_order Equal = false
+
 -- an answer that isn't there is no yes
 abbrev pub is_yes : Option Bool → Bool
 is_yes None = false

@@ -1,9 +1,6 @@
 -- Ground atoms and terms, and the objects that references stand for.
 use Rattle.std.specs.Prelude.{ℕ, Bool, ◌&&◌, ◌==◌, List, map, slice_index, bytes_eq}
 use Rattle.std.proofs.Common.{◌≡◌, ap, Decides}
-use Rattle.std.specs.Cmp.{IsEquivalence}
-use Rattle.std.specs.Cmp.Lexicographic.{nat_list_eq_equiv}
-use Rattle.std.proofs.lemmas.Cmp.{and_equiv, on_equiv, nat_eq_equiv}
 use Rattle.std.proofs.lemmas.Bool.Decides.{Decides-and, Decides-like}
 use Rattle.std.proofs.lemmas.Bool.{eqb-true, eq-eqb}
 use Rattle.std.proofs.lemmas.Slice.Eq.{bytes_eq-Decides}
@@ -19,16 +16,16 @@ object_of objects (Object n) = n
 object_of objects (Parameter i) = slice_index objects i
 
 -- the objects that references stand for
-abbrev pub bound : List ℕ → List Ref → List ℕ
-bound objects refs = map (object_of objects) refs
+abbrev pub objects_of : List ℕ → List Ref → List ℕ
+objects_of objects refs = map (object_of objects) refs
 
 -- the ground atom of a predicate and references
 abbrev pub atom_of : List ℕ → ℕ → List Ref → Atom
-atom_of objects predicate refs = record { predicate = predicate; objects = bound objects refs }
+atom_of objects predicate refs = record { predicate = predicate; objects = objects_of objects refs }
 
 -- the ground term of a function and references
 abbrev pub term_of : List ℕ → ℕ → List Ref → Term
-term_of objects function refs = record { function = function; objects = bound objects refs }
+term_of objects function refs = record { function = function; objects = objects_of objects refs }
 
 -- two atoms are the same where their predicates and their objects are
 abbrev pub same_atom : Atom → Atom → Bool
@@ -60,13 +57,3 @@ pub same_step-Decides : (a b : Step) → Decides (same_step a b) (a ≡ b)
 same_step-Decides a b =
     Decides-like (same_step a b) (λ p. λ i. record { action = p.0 i; objects = p.1 i }) (λ p. (ap (λ x. x.action) p, ap (λ x. x.objects) p))
     (both-Decides a.action b.action a.objects b.objects)
-
--- and are equivalences
-pub same_atom_laws : IsEquivalence same_atom
-same_atom_laws = and_equiv (on_equiv (λ a. a.predicate) nat_eq_equiv) (on_equiv (λ a. a.objects) nat_list_eq_equiv)
-
-pub same_term_laws : IsEquivalence same_term
-same_term_laws = and_equiv (on_equiv (λ a. a.function) nat_eq_equiv) (on_equiv (λ a. a.objects) nat_list_eq_equiv)
-
-pub same_step_laws : IsEquivalence same_step
-same_step_laws = and_equiv (on_equiv (λ a. a.action) nat_eq_equiv) (on_equiv (λ a. a.objects) nat_list_eq_equiv)

@@ -7,3 +7,4 @@ pub mod Steps
 pub mod Plans
 pub mod Names
 pub mod Tasks
+pub mod Maps

@@ -15,7 +15,11 @@ pub record State : Type 0 where
 abbrev pub is_among : List Atom → Atom → Bool
 is_among atoms a = list_any (same_atom a) atoms
 
--- the value that a list gives the term
+-- the value that a list gives the term: the first one, where it gives several
 abbrev pub value_among : List (Term × Fraction) → Term → Option Fraction
 value_among [] t = None
 value_among (v ∷ vs) t = if same_term t v.0 then Some v.1 else value_among vs t
+
+-- the state in which these atoms are true, and these terms have these values
+abbrev pub state_of : List Atom → List (Term × Fraction) → State
+state_of atoms values = record { has = is_among atoms; value = value_among values }

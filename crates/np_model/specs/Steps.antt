@@ -11,7 +11,7 @@ use Rattle.np_model.specs.declared.task.Eff.{Eff}
 use Rattle.np_model.specs.declared.task.Eff.TheVariants.{Add, Delete, Change}
 use Rattle.np_model.specs.declared.task.Action.{Action}
 use Rattle.np_model.specs.declared.task.Step.{Step}
-use Rattle.np_model.specs.declared.task.Task.{Task}
+use Rattle.np_model.specs.declared.task.TaskParts.{TaskParts}
 use Rattle.np_model.specs.Ground.{atom_of, term_of, same_atom, same_term}
 use Rattle.np_model.specs.States.{State}
 use Rattle.np_model.specs.Values.{value_of, of_both, negated, sum_of}
@@ -19,16 +19,16 @@ use Rattle.np_model.specs.Conditions.{all_hold}
 use Rattle.np_model.specs.Types.{type_of, all_fit}
 
 -- whether objects fit the parameters of an action, one for each, each of the parameter's type or of one under it
-abbrev pub takes : Task → Action → List ℕ → Bool
+abbrev pub takes : TaskParts → Action → List ℕ → Bool
 takes task action objects = all_fit task.types action.parameters (map (type_of task.objects) objects)
 
 -- the action of a step of the task; none where it names no action, or its objects don't fit
-abbrev pub action_of : Task → Step → Option Action
+abbrev pub action_of : TaskParts → Step → Option Action
 action_of task step =
     option_and_then (λ action. if takes task action step.objects then Some action else None) (slice_get task.actions step.action)
 
 -- whether it is a step of the task
-abbrev pub is_step : Task → Step → Bool
+abbrev pub is_step : TaskParts → Step → Bool
 is_step task step = is_some (action_of task step)
 
 -- whether an effect adds the atom
@@ -85,7 +85,7 @@ result_of action objects s = record {
 }
 
 -- the state after a step of the task that is applicable; none where it is no step of the task or isn't applicable
-unfoldable pub next : Task → Step → State → Option State
+unfoldable pub next : TaskParts → Step → State → Option State
 next task step s =
     option_and_then
     (λ action. if is_applicable action step.objects s then Some (result_of action step.objects s) else None)

@@ -1,5 +1,5 @@
 -- What every task keeps.
-use Rattle.std.specs.Prelude.{◌≡◌, ◌≢◌, ℕ, ◌^◌, ◌<◌, Bool, true, false, not, ◌&&◌, ◌==◌, nat_lt, nat_le, List, [], map, length, slice_get, Option, Some, is_some, IsTrue, IfSome, All, AllPairs, codes}
+use Rattle.std.specs.Prelude.{◌≡◌, ◌≢◌, ℕ, suc, ◌^◌, ◌<◌, max, Bool, true, false, not, ◌&&◌, ◌==◌, nat_lt, nat_le, List, [], ◌∷◌, map, length, slice_get, Option, Some, is_some, IsTrue, IfSome, All, AllPairs, codes}
 use Rattle.std.specs.List.{list_any, list_all}
 use Rattle.std.specs.Option.{option_map_or}
 use Rattle.np_model.specs.declared.task.Ref.{Ref}
@@ -15,7 +15,7 @@ use Rattle.np_model.specs.declared.task.Eff.TheVariants as eff
 use Rattle.np_model.specs.declared.task.Signature.{Signature}
 use Rattle.np_model.specs.declared.task.Action.{Action}
 use Rattle.np_model.specs.declared.task.TypeName.{TypeName}
-use Rattle.np_model.specs.declared.task.Task.{Task}
+use Rattle.np_model.specs.declared.task.TaskParts.{TaskParts}
 use Rattle.np_model.specs.Values.{every_read}
 use Rattle.np_model.specs.Types.{is_under, type_of, all_fit}
 use Rattle.np_model.specs.Names.{is_name}
@@ -34,17 +34,17 @@ pub record AreNames (names : List (List ℕ)) : Type 0 where
   pub distinct : AreDistinct names
 
 -- the type of what a reference stands for, where the parameters have these types; none where it names nothing
-abbrev pub type_of_ref : Task → List ℕ → Ref → Option ℕ
+abbrev pub type_of_ref : TaskParts → List ℕ → Ref → Option ℕ
 type_of_ref task parameters (ref.Object n) = type_of task.objects n
 type_of_ref task parameters (ref.Parameter i) = slice_get parameters i
 
 -- whether a symbol is declared, and has arguments of these types, one for each of its parameters
-abbrev pub is_call : Task → List Signature → ℕ → List (Option ℕ) → Bool
+abbrev pub is_call : TaskParts → List Signature → ℕ → List (Option ℕ) → Bool
 is_call task signatures symbol given =
     option_map_or (λ s. all_fit task.types s.parameters given) (slice_get signatures symbol) false
 
--- whether a declared symbol stands with references that fit it
-abbrev pub is_use : Task → List Signature → List ℕ → ℕ → List Ref → Bool
+-- whether a declared symbol has references that fit it
+abbrev pub is_use : TaskParts → List Signature → List ℕ → ℕ → List Ref → Bool
 is_use task signatures parameters symbol refs =
     is_call task signatures symbol (map (type_of_ref task parameters) refs)
 
@@ -61,12 +61,31 @@ has_parts_from (part.Mul xs) = nat_le 2 (length xs) && nat_lt (length xs) (2 ^ 3
 abbrev pub has_parts : Sum → Bool
 has_parts = fold-Sum Bool has_parts_from
 
--- whether an expression stands where the parameters have these types
-abbrev pub is_sum : Task → List ℕ → Sum → Bool
-is_sum task parameters sum = every_read (is_use task task.functions parameters) sum && has_parts sum
+-- the largest number of a list, and 0 of none
+abbrev pub largest : List ℕ → ℕ
+largest [] = 0
+largest (n ∷ ns) = max n (largest ns)
 
--- whether a condition stands where the parameters have these types
-abbrev pub is_condition : Task → List ℕ → Cond → Bool
+-- how deep the operators of an expression nest, from the depths of its parts
+abbrev pub depth_from : Sum-F ℕ → ℕ
+depth_from (part.Number x) = 0
+depth_from (part.Value function refs) = 0
+depth_from (part.Minus x) = suc x
+depth_from (part.Sub x y) = suc (max x y)
+depth_from (part.Div x y) = suc (max x y)
+depth_from (part.Add xs) = suc (largest xs)
+depth_from (part.Mul xs) = suc (largest xs)
+
+abbrev pub depth_of : Sum → ℕ
+depth_of = fold-Sum ℕ depth_from
+
+-- whether an expression is allowed where the parameters have these types; its operators nest at most 256 deep, as brackets in a text do
+abbrev pub is_sum : TaskParts → List ℕ → Sum → Bool
+is_sum task parameters sum =
+    every_read (is_use task task.functions parameters) sum && (has_parts sum && nat_le (depth_of sum) 256)
+
+-- whether a condition is allowed where the parameters have these types
+abbrev pub is_condition : TaskParts → List ℕ → Cond → Bool
 is_condition task parameters (cond.Atom positive predicate refs) = is_use task task.predicates parameters predicate refs
 is_condition task parameters (cond.Same positive a b) =
     is_some (type_of_ref task parameters a) && is_some (type_of_ref task parameters b)
@@ -76,8 +95,8 @@ is_condition task parameters (cond.Compare op x y) = is_sum task parameters x &&
 abbrev pub is_fixed : List Signature → ℕ → Bool
 is_fixed signatures symbol = option_map_or (λ s. s.fixed) (slice_get signatures symbol) false
 
--- whether an effect stands where the parameters have these types; its amount reads static functions alone
-abbrev pub is_effect : Task → List ℕ → Eff → Bool
+-- whether an effect is allowed where the parameters have these types; its amount reads static functions alone
+abbrev pub is_effect : TaskParts → List ℕ → Eff → Bool
 is_effect task parameters (eff.Add predicate refs) = is_use task task.predicates parameters predicate refs
 is_effect task parameters (eff.Delete predicate refs) = is_use task task.predicates parameters predicate refs
 is_effect task parameters (eff.Change up function refs amount) =
@@ -97,13 +116,13 @@ names_function n (eff.Delete predicate refs) = false
 names_function n (eff.Change up function refs amount) = function == n
 
 -- `fixed` is true exactly where no action has an effect that names the symbol
-abbrev pub FixedIsStatic : Task → (ℕ → Eff → Bool) → List Signature → Type 0
+abbrev pub FixedIsStatic : TaskParts → (ℕ → Eff → Bool) → List Signature → Type 0
 FixedIsStatic task names signatures =
     (n : ℕ) (s : Signature) → slice_get signatures n ≡ Some s
     → s.fixed ≡ not (list_any (λ action. list_any (names n) action.effects) task.actions)
 
 -- the types of parameters are declared
-abbrev pub AreTypes : Task → List ℕ → Type 0
+abbrev pub AreTypes : TaskParts → List ℕ → Type 0
 AreTypes task parameters = All (λ of. of < length task.types) parameters
 
 -- the types: the first is `object`, under which all lie
@@ -113,12 +132,12 @@ pub record AreTypeNames (types : List TypeName) : Type 0 where
   pub rooted : (of : ℕ) → of < length types → IsTrue (is_under types of 0)
 
 -- a declared predicate or function
-pub record IsSignature (task : Task) (s : Signature) : Type 0 where
+pub record IsSignature (task : TaskParts) (s : Signature) : Type 0 where
   pub short : IsShort s.parameters
   pub typed : AreTypes task s.parameters
 
 -- an action
-pub record IsAction (task : Task) (action : Action) : Type 0 where
+pub record IsAction (task : TaskParts) (action : Action) : Type 0 where
   pub short_parameters : IsShort action.parameters
   pub short_needs : IsShort action.needs
   pub short_effects : IsShort action.effects
@@ -127,7 +146,7 @@ pub record IsAction (task : Task) (action : Action) : Type 0 where
   pub effects : All (λ e. IsTrue (is_effect task action.parameters e)) action.effects
 
 -- each list of a task has so few items that a u32 can count them
-pub record AreShort (task : Task) : Type 0 where
+pub record AreShort (task : TaskParts) : Type 0 where
   pub types : IsShort task.types
   pub objects : IsShort task.objects
   pub predicates : IsShort task.predicates
@@ -138,7 +157,7 @@ pub record AreShort (task : Task) : Type 0 where
   pub goal : IsShort task.goal
 
 -- the names of each list are names, and distinct
-pub record AreNamed (task : Task) : Type 0 where
+pub record AreNamed (task : TaskParts) : Type 0 where
   pub types : AreNames (map (λ t. t.name) task.types)
   pub objects : AreNames (map (λ o. o.name) task.objects)
   pub predicates : AreNames (map (λ s. s.name) task.predicates)
@@ -146,15 +165,15 @@ pub record AreNamed (task : Task) : Type 0 where
   pub actions : AreNames (map (λ a. a.name) task.actions)
 
 -- whether a ground atom has a declared predicate and objects that fit it
-abbrev pub is_ground_atom : Task → Atom → Bool
+abbrev pub is_ground_atom : TaskParts → Atom → Bool
 is_ground_atom task a = is_call task task.predicates a.predicate (map (type_of task.objects) a.objects)
 
 -- whether a ground term has a declared function and objects that fit it
-abbrev pub is_ground_term : Task → Term → Bool
+abbrev pub is_ground_term : TaskParts → Term → Bool
 is_ground_term task t = is_call task task.functions t.function (map (type_of task.objects) t.objects)
 
 -- a well-formed task: each number names an item of its list, or a parameter of its action, and arguments fit
-pub record IsTask (task : Task) : Type 0 where
+pub record IsTask (task : TaskParts) : Type 0 where
   pub short : AreShort task
   pub named : AreNamed task
   pub types : AreTypeNames task.types

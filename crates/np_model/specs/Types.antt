@@ -5,7 +5,7 @@ use Rattle.std.specs.Cmp.Lexicographic.{pointwise}
 use Rattle.np_model.specs.declared.task.TypeName.{TypeName}
 use Rattle.np_model.specs.declared.task.Object.{Object}
 
--- the type that a type stands under; a number that names no type stands for itself
+-- the type that a type lies under; a number that names no type stands for itself
 abbrev pub parent_of : List TypeName → ℕ → ℕ
 parent_of types of = option_map_or (λ t. t.parent) (slice_get types of) of
 

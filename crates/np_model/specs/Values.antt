@@ -1,9 +1,10 @@
 -- The value of an expression in a state, or none. When there is none is this project's own rule.
-use Rattle.std.specs.Prelude.{ℕ, pos, Bool, true, false, ◌||◌, ◌&&◌, if◌then◌else◌, List, fold, Option, Some, None, option_map}
-use Rattle.std.specs.List.{list_any, list_all}
+use Rattle.std.specs.Prelude.{ℕ, pos, Bool, true, ◌&&◌, List, [], ◌∷◌, ◌++◌, fold, Option, Some, None, option_map}
+use Rattle.std.specs.List.{list_all, flat_map}
 use Rattle.np_frac.specs.Fractions.{Fraction, whole, plus, minus, times}
-use Rattle.np_frac.specs.Checked.{reciprocal, is_zero}
+use Rattle.np_frac.specs.Checked.{quotient}
 use Rattle.np_model.specs.declared.task.Ref.{Ref}
+use Rattle.np_model.specs.declared.task.Term.{Term}
 use Rattle.np_model.specs.declared.task.Sum.{Sum, Sum-F, fold-Sum}
 use Rattle.np_model.specs.declared.task.Sum.TheOpen as part
 use Rattle.np_model.specs.Ground.{term_of}
@@ -21,7 +22,7 @@ negated x = minus (whole (pos 0)) x
 
 -- the quotient, and none where the divisor is missing or 0
 abbrev pub quotient_of : Option Fraction → Option Fraction → Option Fraction
-quotient_of (Some x) (Some y) = if is_zero y then None else Some (times x (reciprocal y))
+quotient_of (Some x) (Some y) = quotient x y
 quotient_of (Some x) None = None
 quotient_of None y = None
 
@@ -48,19 +49,6 @@ value_from objects s (part.Mul xs) = product_of xs
 abbrev pub value_of : List ℕ → State → Sum → Option Fraction
 value_of objects s = fold-Sum (Option Fraction) (value_from objects s)
 
--- whether some term that an expression reads passes a test
-abbrev pub some_read_from : (ℕ → List Ref → Bool) → Sum-F Bool → Bool
-some_read_from test (part.Number x) = false
-some_read_from test (part.Value function refs) = test function refs
-some_read_from test (part.Minus x) = x
-some_read_from test (part.Sub x y) = x || y
-some_read_from test (part.Div x y) = x || y
-some_read_from test (part.Add xs) = list_any (λ x. x) xs
-some_read_from test (part.Mul xs) = list_any (λ x. x) xs
-
-abbrev pub some_read : (ℕ → List Ref → Bool) → Sum → Bool
-some_read test = fold-Sum Bool (some_read_from test)
-
 -- whether each term that an expression reads passes a test
 abbrev pub every_read_from : (ℕ → List Ref → Bool) → Sum-F Bool → Bool
 every_read_from test (part.Number x) = true
@@ -73,3 +61,16 @@ every_read_from test (part.Mul xs) = list_all (λ x. x) xs
 
 abbrev pub every_read : (ℕ → List Ref → Bool) → Sum → Bool
 every_read test = fold-Sum Bool (every_read_from test)
+
+-- the ground terms that an expression without parameters reads, in the order of its text
+abbrev pub terms_from : Sum-F (List Term) → List Term
+terms_from (part.Number x) = []
+terms_from (part.Value function refs) = term_of [] function refs ∷ []
+terms_from (part.Minus x) = x
+terms_from (part.Sub x y) = x ++ y
+terms_from (part.Div x y) = x ++ y
+terms_from (part.Add xs) = flat_map (λ x. x) xs
+terms_from (part.Mul xs) = flat_map (λ x. x) xs
+
+abbrev pub terms_of : Sum → List Term
+terms_of = fold-Sum (List Term) terms_from

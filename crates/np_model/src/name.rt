@@ -70,25 +70,3 @@ impl Name {
         self.text.as_str()
     }
 }
-
-#[cfg(test)]
-mod tests {
-    use super::*;
-    use indexmap::IndexMap;
-    use std::test::Fail;
-
-    #[test]
-    fn found_by_text(rt: HostRuntime) -> Result<(), Fail> {
-        let mut numbers = IndexMap::new(rt.alloc());
-        for (number, text) in ["inc", "dec", "in"].iter().enumerate() {
-            let name = Name::new(String::from_str(rt.alloc(), *text)?);
-            assert_eq!(rt; name.as_str(), *text);
-            numbers.insert(name, number)?;
-        }
-        let dec = Name::new(String::from_str(rt.alloc(), "dec")?);
-        let up = Name::new(String::from_str(rt.alloc(), "up")?);
-        assert_eq!(rt; numbers.get(&dec).copied(), Some(1));
-        assert_eq!(rt; numbers.get(&up).copied(), None);
-        Ok(())
-    }
-}

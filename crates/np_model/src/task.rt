@@ -1,11 +1,12 @@
 //! A task with its types. A name is declared once, in the list of its kind, and named by its place in that list.
 use crate::name::Name;
+use crate::objects::Objects;
 use np_frac::Frac;
 use sqlite_items::{Boxed, Items};
 
-/// A task: its declarations, its start, its goal, and what a plan is to keep low.
+/// The parts of a task: its declarations, its start, its goal and its metric.
 #[derive(Debug, Drop)]
-pub struct Task {
+pub struct TaskParts {
     /// The types. Type 0 is `object`, under which all the others lie.
     pub types: Items<TypeName>,
     /// The objects.
@@ -31,7 +32,7 @@ pub struct Task {
 pub struct TypeName {
     /// Its name.
     pub name: Name,
-    /// The type that it stands under. Type 0 is its own parent.
+    /// The type that it lies under. Type 0 is its own parent.
     pub parent: u32,
 }
 
@@ -62,7 +63,7 @@ pub struct Action {
     pub name: Name,
     /// The types of its parameters.
     pub parameters: Items<u32>,
-    /// The conditions that all have to hold where a step of it is taken.
+    /// The conditions that all have to hold where a step of it is applicable.
     pub needs: Items<Cond>,
     /// What a step of it does.
     pub effects: Items<Eff>,
@@ -78,21 +79,21 @@ pub enum Ref {
 }
 
 /// A ground atom: a predicate with its objects.
-#[derive(Debug, Drop)]
+#[derive(Debug, Drop, PartialEq, Eq, Hash)]
 pub struct Atom {
     /// The predicate.
     pub predicate: u32,
     /// The objects, one for each parameter.
-    pub objects: Items<u32>,
+    pub objects: Objects,
 }
 
 /// A ground term: a function with its objects.
-#[derive(Debug, Drop)]
+#[derive(Debug, Drop, PartialEq, Eq, Hash)]
 pub struct Term {
     /// The function.
     pub function: u32,
     /// The objects, one for each parameter.
-    pub objects: Items<u32>,
+    pub objects: Objects,
 }
 
 /// A condition.
@@ -152,10 +153,10 @@ pub enum Eff {
 }
 
 /// A step: an action with an object for each of its parameters.
-#[derive(Debug, Drop)]
+#[derive(Debug, Drop, PartialEq, Eq, Hash)]
 pub struct Step {
     /// The action.
     pub action: u32,
     /// The objects.
-    pub objects: Items<u32>,
+    pub objects: Objects,
 }

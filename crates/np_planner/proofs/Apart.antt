@@ -28,7 +28,7 @@ is_some (Some x) = true
 none_is_not : {A : Type 0} (x : A) → None ≡ Some x → ⊥
 none_is_not x e = true≢false (sym (ap is_some e))
 
--- what stands behind a test that was passed
+-- what follows a test that was passed
 behind_test : (a b : Bool) (o : Option Solve) (s : Solve) → (if a && b then o else None) ≡ Some s → (b ≡ true) × (o ≡ Some s)
 behind_test true true o s e = (refl, e)
 behind_test true false o s e = absurd (none_is_not s e)

@@ -1,7 +1,7 @@
--- Shelves to which nothing was done, and what follows from one call on a shelf behind another.
+-- Shelves to which nothing was done.
 use Rattle.std.proofs.Common.{◌≡◌}
-use Rattle.np_planner.specs.Answers.{Shelf, IsUntouched}
+use Rattle.np_io.specs.Seen.{SeenShelf}
 
--- a shelf to which nothing was done is what it was
-pub same_shelf : (old new : Shelf) → IsUntouched old new → new ≡ old
-same_shelf old new is = λ i. record { files = is.files i; read_faults = is.faultless.reads i; write_faults = is.faultless.writes i }
+-- a shelf whose files and counts are as before is as before
+pub same_shelf : (old new : SeenShelf) → new.files ≡ old.files → new.read_faults ≡ old.read_faults → new.write_faults ≡ old.write_faults → new ≡ old
+same_shelf old new files reads writes = λ i. record { files = files i; read_faults = reads i; write_faults = writes i }

@@ -1,57 +1,82 @@
 -- What the top call promises, status by status.
-use Rattle.std.specs.Prelude.{Option, ◌≡◌, ℕ, ◌⊎◌, List, Some, None}
+use Rattle.std.specs.Prelude.{◌≡◌, ℕ, ◌==◌, ◌⊎◌, List, Option, Some, None, if◌then◌else◌}
+use Rattle.np_io.specs.Seen.{SeenShelf, SeenSink}
 use Rattle.np_io.specs.Files.{Files}
-use Rattle.np_io.specs.Told.{Changes}
-use Rattle.np_io.specs.Pushes.{HasPushed, HasPushedPrefix}
-use Rattle.np_io.specs.Counts.{Rose, RoseOnce}
-use Rattle.np_planner.specs.declared.answer.Answer.{Answer}
-use Rattle.np_planner.specs.declared.answer.Answer.TheVariants.{Usage, Optimal, Unsolvable, Spent, Yes, OutOfMemory}
+use Rattle.np_io.specs.Counts.{Rose}
 use Rattle.np_cert.specs.declared.certificate.Limit.{Limit}
-use Rattle.np_cert.specs.declared.certificate.Limit.TheVariants.{Number, Absent}
+use Rattle.np_planner.specs.declared.answer.File.{File}
+use Rattle.np_planner.specs.declared.answer.refusal.Refusal.{Refusal}
+use Rattle.np_planner.specs.declared.answer.solve.SolveAnswer.{SolveAnswer}
+use Rattle.np_planner.specs.declared.answer.solve.SolveAnswer.TheVariants.{Optimal, Unsolvable, Spent}
+use Rattle.np_planner.specs.declared.answer.check.CheckAnswer.{CheckAnswer}
+use Rattle.np_planner.specs.declared.answer.check.CheckAnswer.TheVariants.{Yes, No}
+use Rattle.np_planner.specs.declared.answer.check.Fault.{Fault}
+use Rattle.np_planner.specs.declared.answer.Answer.{Answer}
+use Rattle.np_planner.specs.declared.answer.Answer.TheVariants.{Usage, CannotRead, Refused, Solved, Checked, CannotWrite, OutOfMemory}
 use Rattle.np_planner.specs.Words.{Solve, Check, Command, solving, checking, command_of}
-use Rattle.np_planner.specs.Answer.{text_of, status_of}
-use Rattle.np_planner.specs.Answers.{Shelf, shelf_of, IsRight, WasSolved, WasUnsolvable, WasSpent}
-use Rattle.np_planner.specs.Checked.{IsRightCheck, WasYes, HoldsValid}
-use Rattle.np_planner.specs.Said.{Sink, sink_of, IsSaid}
+use Rattle.np_planner.specs.SolveAnswers.{IsRightSolve, claim_of}
+use Rattle.np_planner.specs.CheckAnswers.{IsRightCheck, HoldsValid}
+use Rattle.np_planner.specs.RightAnswers.{IsRight, IsRightTo}
+use Rattle.np_planner.specs.Texts.{text_of}
+use Rattle.np_planner.specs.Output.{IsWhole, IsCutOff, IsAnsweredBy}
 
--- a call of the planner: its words, and the shelf and the sink before and after it
+-- a call of the planner: the command that its words fit, and the shelf and the sink before and after it
 pub record Call : Type 0 where
-  pub words : List (List ℕ)
-  pub before : Shelf
-  pub after : Shelf
-  pub out_before : Sink
-  pub out_after : Sink
+  pub command : Option Command
+  pub before : SeenShelf
+  pub after : SeenShelf
+  pub out_before : SeenSink
+  pub out_after : SeenSink
 
--- a call, by the meanings of the shelf's and the sink's types
-abbrev pub call_of : {S O : Type 0} → (S → Option Files) → (S → List ℕ → ℕ) → (S → List ℕ → ℕ) → (O → Option (List ℕ)) → (O → ℕ) → List (List ℕ) → S → S → O → O → Call
-call_of files read_faults write_faults pushed faults words before after out_before out_after = record {
-  words = words;
-  before = shelf_of files read_faults write_faults before;
-  after = shelf_of files read_faults write_faults after;
-  out_before = sink_of pushed faults out_before;
-  out_after = sink_of pushed faults out_after;
-}
+abbrev pub call_of : List (List ℕ) → SeenShelf → SeenShelf → SeenSink → SeenSink → Call
+call_of words before after out_before out_after = record { command = command_of words; before = before; after = after; out_before = out_before; out_after = out_after }
 
--- exactly this text was appended, where the sink tells, and no push failed
-pub record Says (call : Call) (answer : Answer) : Type 0 where
-  pub whole : Changes call.out_before.pushed call.out_after.pushed (HasPushed (text_of answer))
-  pub no_fault : call.out_after.faults ≡ call.out_before.faults
+-- the text of the answer was pushed whole
+abbrev pub Says : Call → Answer → Type 0
+Says call answer = IsWhole (text_of answer) call.out_before call.out_after
 
--- an answer to a command is right
-abbrev pub IsRightTo : Command → Shelf → Shelf → Answer → Type 0
-IsRightTo (solving command) old new answer = IsRight command old new answer
-IsRightTo (checking command) old new answer = IsRightCheck command old new answer
-
--- whether an answer to these words is right: usage exactly where they fit no command, and then nothing was done
-abbrev pub IsAnswer : Option Command → Shelf → Shelf → Answer → Type 0
-IsAnswer None old new answer = (answer ≡ Usage) × (new ≡ old)
-IsAnswer (Some command) old new answer = IsRightTo command old new answer
-
--- the words are answered rightly, by what the shelf was before and is afterwards, and the answer is said
+-- THE WHOLE. The words are answered rightly, by what the shelf was before and is afterwards, and the answer is given
 pub record IsAnswered (call : Call) (status : ℕ) : Type 0 where
   pub answer : Answer
-  pub right : IsAnswer (command_of call.words) call.before call.after answer
-  pub said : IsSaid answer call.out_before call.out_after status
+  pub right : IsRight call.command call.before call.after answer
+  pub given : IsAnsweredBy answer call.out_before call.out_after status
+
+-- some words are answered; or there was no memory for them, nothing was done, and nothing was said
+abbrev pub IsAnsweredFor : SeenShelf → SeenShelf → SeenSink → SeenSink → ℕ → Type 0
+IsAnsweredFor before after out_before out_after status =
+    ((words : List (List ℕ)) × IsAnswered (call_of words before after out_before out_after) status)
+    ⊎ ((status ≡ 7) × ((after ≡ before) × (out_after ≡ out_before)))
+
+-- what a status means
+pub data Status : Type 0 where
+  done : Status
+  usage : Status
+  refused : Status
+  unread : Status
+  unwritten : Status
+  denied : Status
+  no_memory : Status
+  unsolvable : Status
+  spent : Status
+  unused : Status
+
+abbrev pub status_named : ℕ → Status
+status_named status =
+    if status == 0 then done
+    else if status == 2 then usage
+    else if status == 3 then refused
+    else if status == 4 then unread
+    else if status == 5 then unwritten
+    else if status == 6 then denied
+    else if status == 7 then no_memory
+    else if status == 10 then unsolvable
+    else if status == 11 then spent
+    else unused
+
+-- the text of this right answer to a command was pushed whole
+pub record IsTold (call : Call) (command : Command) (answer : Answer) : Type 0 where
+  pub says : Says call answer
+  pub right : IsRightTo command call.before call.after answer
 
 -- what `check` is told of the files of `solve`
 abbrev pub check_after : Solve → Check
@@ -61,100 +86,87 @@ check_after command = record { inputs = command.inputs; certificate = command.ce
 abbrev pub IsCheckable : Call → Solve → Limit → Type 0
 IsCheckable call command claim = (files : Files) → call.after.files ≡ Some files → HoldsValid (check_after command) claim call.after
 
--- the text `Optimal C, weak 0` was pushed; the plan that was put is a cheapest one of the pair of the files, and the certificate that was
--- put says that none costs less
-pub record IsOptimal (call : Call) (command : Solve) : Type 0 where
-  pub cost : ℕ
-  pub says : Says call (Optimal cost)
-  pub solved : WasSolved command cost call.before call.after
-  pub checkable : IsCheckable call command (Number cost)
+-- the text of this answer of `solve` was pushed; it is true of the pair of the files, and `check` says yes to the certificate that was put
+pub record IsSolveTold (call : Call) (command : Solve) (answer : SolveAnswer) : Type 0 where
+  pub says : Says call (Solved answer)
+  pub right : IsRightSolve command answer call.before call.after
+  pub checkable : IsCheckable call command (claim_of answer)
 
--- the text `Unsolvable, weak 0` was pushed, the pair of the files has no plan, and the certificate that was put says so
-pub record HasNoPlan (call : Call) (command : Solve) : Type 0 where
-  pub says : Says call Unsolvable
-  pub unsolvable : WasUnsolvable command call.before call.after
-  pub checkable : IsCheckable call command Absent
+-- `Optimal C, weak 0`: the plan that was put is a cheapest one, of cost C, and the certificate that was put says that none costs less
+abbrev pub IsOptimal : Call → Solve → Type 0
+IsOptimal call command = (cost : ℕ) × IsSolveTold call command (Optimal cost)
 
--- the text `Budget spent N, bound L, weak 0` was pushed, N is the budget of the words, all that is said of N and L is true of the pair, and
--- the certificate that was put says that no plan costs less than L
-pub record IsBudgetSpent (call : Call) (command : Solve) : Type 0 where
-  pub bound : ℕ
-  pub says : Says call (Spent command.nodes bound)
-  pub spent : WasSpent command command.nodes bound call.before call.after
-  pub checkable : IsCheckable call command (Number bound)
+-- `Unsolvable, weak 0`: the pair has no plan, and the certificate that was put says so
+abbrev pub HasNoPlan : Call → Solve → Type 0
+HasNoPlan call command = IsSolveTold call command Unsolvable
 
--- a text `Yes: ..` was pushed, and its words are true of the pair of the files
-pub record IsYes (call : Call) (command : Check) : Type 0 where
-  pub claim : Limit
-  pub says : Says call (Yes claim)
-  pub yes : WasYes command claim call.before call.after
+-- `Budget spent N, bound L, weak 0`: N is the budget of the words, and all that is said of N and L is true of the pair; the certificate that
+-- was put says that no plan costs less than L
+abbrev pub IsBudgetSpent : Call → Solve → Type 0
+IsBudgetSpent call command = (bound : ℕ) × IsSolveTold call command (Spent command.nodes bound)
 
--- a text `No: ..` was pushed, and it names the certificate's first fault
-pub record IsNo (call : Call) (command : Check) : Type 0 where
-  pub answer : Answer
-  pub own_status : status_of answer ≡ 6
-  pub says : Says call answer
-  pub right : IsRightCheck command call.before call.after answer
+-- the text of this answer of `check` was pushed; it is true of the files, and nothing was done
+pub record IsCheckTold (call : Call) (command : Check) (answer : CheckAnswer) : Type 0 where
+  pub says : Says call (Checked answer)
+  pub right : IsRightCheck command answer call.before
+  pub untouched : call.after ≡ call.before
+
+-- `Yes: ..`: the certificate is valid for the pair of the files, and its claim is true of the pair's plans
+abbrev pub IsYes : Call → Check → Type 0
+IsYes call command = (claim : Limit) × IsCheckTold call command (Yes claim)
+
+-- `No: ..`: it names the certificate's first fault
+abbrev pub IsNo : Call → Check → Type 0
+IsNo call command = (fault : Fault) × IsCheckTold call command (No fault)
 
 -- the words fit no command, the usage text was pushed, and nothing was done
 pub record IsUsage (call : Call) : Type 0 where
-  pub no_command : command_of call.words ≡ None
   pub says : Says call Usage
   pub untouched : call.after ≡ call.before
 
--- an answer of this status was pushed whole, and it is right for the words
-pub record IsRefused (call : Call) (status : ℕ) : Type 0 where
-  pub command : Command
-  pub words_are : command_of call.words ≡ Some command
-  pub answer : Answer
-  pub own_status : status_of answer ≡ status
-  pub says : Says call answer
-  pub right : IsRightTo command call.before call.after answer
+-- a refusal was pushed, and what the files hold is the reason
+abbrev pub IsRefused : Call → Command → Type 0
+IsRefused call command = (refusal : Refusal) × IsTold call command (Refused refusal)
+
+-- a read failed, and that was said
+abbrev pub HadReadFault : Call → Command → Type 0
+HadReadFault call command = (file : File) × IsTold call command (CannotRead file)
+
+-- a write of the certificate or of the plan failed, and that was said
+abbrev pub HadWriteFault : Call → Option Command → Type 0
+HadWriteFault call None = ⊥
+HadWriteFault call (Some command) = (file : File) × IsTold call command (CannotWrite file)
 
 -- one push failed in this call: a prefix of a right answer's text, or of `Out of memory`, was pushed
 pub record IsPushCut (call : Call) : Type 0 where
   pub answer : Answer
-  pub right : IsAnswer (command_of call.words) call.before call.after answer
+  pub right : IsRight call.command call.before call.after answer
   pub said : Answer
   pub one_of : (said ≡ answer) ⊎ (said ≡ OutOfMemory)
-  pub prefix : Changes call.out_before.pushed call.out_after.pushed (HasPushedPrefix (text_of said))
-  pub rose : RoseOnce call.out_before.faults call.out_after.faults
+  pub cut : IsCutOff (text_of said) call.out_before call.out_after
 
--- a write of the certificate or of the plan failed and that was said, or the push of an answer failed
-abbrev pub HadWriteFault : Call → Type 0
-HadWriteFault call = IsRefused call 5 ⊎ IsPushCut call
-
--- there was no memory: nothing was pushed, or the words `Out of memory`, and no push failed; what was done before is what a right answer
--- allows
+-- memory ran out: nothing was pushed, or the words `Out of memory`, and no push failed; what was done before is what a right answer allows
 pub record IsOutOfMemory (call : Call) : Type 0 where
   pub answer : Answer
-  pub right : IsAnswer (command_of call.words) call.before call.after answer
+  pub right : IsRight call.command call.before call.after answer
   pub says : (call.out_after ≡ call.out_before) ⊎ Says call OutOfMemory
 
--- the command is `solve` with what it was told, and this holds
-pub record WhenSolving (call : Call) (Holds : Solve → Type 0) : Type 0 where
-  pub command : Solve
-  pub words_are : command_of call.words ≡ Some (solving command)
-  pub holds : Holds command
+-- WHAT A STATUS PROMISES, by the command that the words fit. No other status comes.
+abbrev pub Promise : Option Command → Status → Call → Type 0
+Promise None usage call = IsUsage call
+Promise (Some (solving solve)) done call = IsOptimal call solve
+Promise (Some (solving solve)) unsolvable call = HasNoPlan call solve
+Promise (Some (solving solve)) spent call = IsBudgetSpent call solve
+Promise (Some (checking check)) done call = IsYes call check
+Promise (Some (checking check)) denied call = IsNo call check
+Promise (Some command) refused call = IsRefused call command
+Promise (Some command) unread call = HadReadFault call command
+Promise command unwritten call = HadWriteFault call command ⊎ IsPushCut call
+Promise command no_memory call = IsOutOfMemory call
+Promise command status call = ⊥
 
--- the command is `check` with what it was told, and this holds
-pub record WhenChecking (call : Call) (Holds : Check → Type 0) : Type 0 where
-  pub command : Check
-  pub words_are : command_of call.words ≡ Some (checking command)
-  pub holds : Holds command
-
--- what each status says
-pub data Promise (call : Call) : ℕ → Type 0 where
-  optimal : WhenSolving call (IsOptimal call) → Promise call 0
-  agreed : WhenChecking call (IsYes call) → Promise call 0
-  usage : IsUsage call → Promise call 2
-  refused : IsRefused call 3 → Promise call 3
-  unread : IsRefused call 4 → Promise call 4
-  unwritten : HadWriteFault call → Promise call 5
-  denied : WhenChecking call (IsNo call) → Promise call 6
-  memory : IsOutOfMemory call → Promise call 7
-  unsolvable : WhenSolving call (HasNoPlan call) → Promise call 10
-  spent : WhenSolving call (IsBudgetSpent call) → Promise call 11
+abbrev pub KeepsPromise : Call → ℕ → Type 0
+KeepsPromise call status = Promise call.command (status_named status) call
 
 -- no read of a file of the words failed in the call, and no push
 pub record HadNoFault (call : Call) (command : Check) : Type 0 where
@@ -163,12 +175,18 @@ pub record HadNoFault (call : Call) (command : Check) : Type 0 where
   pub certificate : Rose (call.before.read_faults command.certificate) (call.after.read_faults command.certificate) → ⊥
   pub sink : Rose call.out_before.faults call.out_after.faults → ⊥
 
+-- the words are those of `solve`, and this holds of them
+pub record WhenSolving (call : Call) (Holds : Solve → Type 0) : Type 0 where
+  pub command : Solve
+  pub words_are : call.command ≡ Some (solving command)
+  pub holds : Holds command
+
 -- THE HEADLINE. What `solve` prints is true: the plan runs, meets the goal and costs the printed number, and no plan of any length costs
 -- less; or there is none; or no plan costs less than the bound. What it puts is a certificate to which `check` says yes. And the yes of
 -- `check`, on whatever bytes, is true of its claim, and comes for every valid certificate, where nothing fails and memory is there.
 pub record KeepsItsWord (call : Call) (status : ℕ) : Type 0 where
-  pub optimal : (command : Solve) → command_of call.words ≡ Some (solving command) → status ≡ 0 → IsOptimal call command
+  pub optimal : (command : Solve) → call.command ≡ Some (solving command) → status ≡ 0 → IsOptimal call command
   pub unsolvable : status ≡ 10 → WhenSolving call (HasNoPlan call)
   pub spent : status ≡ 11 → WhenSolving call (IsBudgetSpent call)
-  pub yes : (command : Check) → command_of call.words ≡ Some (checking command) → status ≡ 0 → IsYes call command
-  pub yes_comes : (command : Check) (claim : Limit) → command_of call.words ≡ Some (checking command) → HoldsValid command claim call.before → HadNoFault call command → ((status ≡ 0) × Says call (Yes claim)) ⊎ (status ≡ 7)
+  pub yes : (command : Check) → call.command ≡ Some (checking command) → status ≡ 0 → IsYes call command
+  pub yes_comes : (command : Check) (claim : Limit) → call.command ≡ Some (checking command) → HoldsValid command claim call.before → HadNoFault call command → ((status ≡ 0) × Says call (Checked (Yes claim))) ⊎ (status ≡ 7)

@@ -1,8 +1,9 @@
 -- The words of the commands `solve` and `check`.
-use Rattle.std.specs.Prelude.{ℕ, ◌+◌, ◌-◌, ◌*◌, ◌^◌, Bool, ◌&&◌, not, List, [], ◌∷◌, Option, Some, None, codes, nat_le, if◌then◌else◌}
+use Rattle.std.specs.Prelude.{ℕ, ◌+◌, ◌-◌, ◌*◌, Bool, ◌&&◌, not, List, [], ◌∷◌, Option, Some, None, codes, nat_le, if◌then◌else◌}
 use Rattle.std.specs.Char.{is_ascii_digit}
 use Rattle.std.specs.Option.{option_map, option_or}
 use Rattle.std.specs.Str.{bytes_eq}
+use Rattle.np_planner.specs.declared.words.TheConstants.{DEFAULT_NODES, MOST_NODES}
 
 -- the names of the pair of files that a command reads first
 pub record Inputs : Type 0 where
@@ -26,17 +27,17 @@ pub data Command : Type 0 where
   solving : Solve → Command
   checking : Check → Command
 
--- the number that decimal digits stand for behind a number that is already read; none where a byte is no digit
+-- the number that decimal digits stand for after a number that is already read; none where a byte is no digit
 abbrev pub number_from : ℕ → List ℕ → Option ℕ
 number_from n [] = Some n
 number_from n (byte ∷ bytes) = if is_ascii_digit byte then number_from (n * 10 + (byte - 48)) bytes else None
 
--- a number, where it is at most 16777216
+-- a number, where it is at most the greatest budget
 abbrev pub at_most_all : Option ℕ → Option ℕ
 at_most_all None = None
-at_most_all (Some n) = if nat_le n (2 ^ 24) then Some n else None
+at_most_all (Some n) = if nat_le n MOST_NODES then Some n else None
 
--- a number from 1 to 16777216 in decimal digits without a leading zero
+-- a number from 1 to the greatest budget in decimal digits without a leading zero
 abbrev pub nodes_of : List ℕ → Option ℕ
 nodes_of [] = None
 nodes_of (first ∷ bytes) = if nat_le first 48 then None else at_most_all (number_from 0 (first ∷ bytes))
@@ -49,7 +50,7 @@ is_apart domain problem plan certificate =
 
 -- where the words name a budget, it is this
 abbrev pub budget_of : List (List ℕ) → Option ℕ
-budget_of [] = Some 100000
+budget_of [] = Some DEFAULT_NODES
 budget_of (word ∷ []) = nodes_of word
 budget_of (word ∷ other ∷ words) = None
 

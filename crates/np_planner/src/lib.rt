@@ -2,17 +2,13 @@
 #![tactic(auto)]
 
 mod answer;
-mod certified_laws;
 mod check;
+mod command_line;
 mod entry;
-mod evidence;
-mod evidence_laws;
-mod flat_laws;
 mod inputs;
-mod laws;
-mod pair;
 mod say;
 mod solve;
 mod words;
 
+pub use command_line::program;
 pub use entry::planner;

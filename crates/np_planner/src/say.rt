@@ -1,6 +1,7 @@
 //! What the planner says.
-ghost use Rattle.std.specs.Prelude.{◌≤◌};
-ghost use Rattle.np_planner.specs.Said.{sink_of, IsGiven, IsSaid};
+ghost use Rattle.std.specs.Prelude.{◌≡◌, ◌≤◌, ◌⊎◌};
+ghost use Rattle.np_planner.specs.Texts.{status_of};
+ghost use Rattle.np_planner.specs.Output.{IsAnsweredBy, IsPushed};
 
 use crate::answer::Answer;
 use np_io::{Give, Sink};
@@ -8,10 +9,8 @@ use std::alloc::Global;
 
 /// Pushes an answer, and gives the status to end with.
 pub fn say<O: Sink>(alloc: Global, answer: &Answer, out: &mut O) -> u8
-    ensures said { IsSaid answer.now
-        (sink_of O.pushed O.faults out.old)
-        (sink_of O.pushed O.faults out.new) result }
-    ensures later { O.faults out.old ≤ O.faults out.new }
+    ensures given { IsAnsweredBy answer.now (O.seen out.old) (O.seen out.new) result }
+    ensures later { (O.seen out.old).faults ≤ (O.seen out.new).faults }
 {
     match answer.text(alloc) {
         Ok(text) => push(text.as_bytes(), answer.status(), out),
@@ -21,10 +20,8 @@ pub fn say<O: Sink>(alloc: Global, answer: &Answer, out: &mut O) -> u8
 
 /// Pushes a text that goes with a status, and gives the status to end with.
 fn push<O: Sink>(text: &[u8], status: u8, out: &mut O) -> u8
-    ensures given { IsGiven text.now status
-        (sink_of O.pushed O.faults out.old)
-        (sink_of O.pushed O.faults out.new) result }
-    ensures later { O.faults out.old ≤ O.faults out.new }
+    ensures given { IsPushed text.now status (O.seen out.old) (O.seen out.new) result }
+    ensures later { (O.seen out.old).faults ≤ (O.seen out.new).faults }
 {
     match out.push(text) {
         Ok(()) => status,

@@ -1,9 +1,10 @@
 //! The words of the commands.
-ghost use Rattle.std.specs.Prelude.{◌≡◌, ◌≤◌, ◌^◌, map, string_bytes, IfSome, Some, false};
+ghost use Rattle.std.specs.Prelude.{◌≡◌, ◌≤◌, map, string_bytes, IfSome, Some, false};
 ghost use Rattle.std.specs.Str.{bytes_eq};
 ghost use Rattle.std.specs.Option.{option_map};
 ghost use Rattle.np_planner.specs.Words.{solve_of, check_of, command_of, budget_of, nodes_of, is_apart};
-ghost use Rattle.np_planner.specs.Told.{told, told_solve, told_check, told_inputs};
+ghost use Rattle.np_planner.specs.declared.words.TheConstants.{MOST_NODES};
+ghost use Rattle.np_planner.specs.CommandSteps.{told, told_solve, told_check, told_inputs};
 ghost use Rattle.np_planner.specs.declared.words.Solve.{Solve as SolveWords};
 ghost use Rattle.np_planner.specs.declared.words.Command.TheVariants as fits;
 
@@ -47,7 +48,7 @@ pub enum Command<'a> {
 pub fn command_words(words: &[String]) -> Option<Command<'_>>
     ensures told { option_map told result ≡ command_of (map string_bytes words.now) }
     ensures some_nodes { (command : SolveWords) → result ≡ Some (fits.Solve command) → 1 ≤ command.nodes }
-    ensures few_nodes { (command : SolveWords) → result ≡ Some (fits.Solve command) → command.nodes ≤ 2 ^ 24 }
+    ensures few_nodes { (command : SolveWords) → result ≡ Some (fits.Solve command) → command.nodes ≤ MOST_NODES }
     ensures apart { (command : SolveWords) → result ≡ Some (fits.Solve command) → bytes_eq command.plan.now command.certificate.now ≡ false }
 {
     match solve_words(words) {
@@ -63,7 +64,7 @@ pub fn command_words(words: &[String]) -> Option<Command<'_>>
 fn solve_words(words: &[String]) -> Option<Solve<'_>>
     ensures told { option_map told_solve result ≡ solve_of (map string_bytes words.now) }
     ensures some_nodes { IfSome result (λ solve. 1 ≤ solve.nodes) }
-    ensures few_nodes { IfSome result (λ solve. solve.nodes ≤ 2 ^ 24) }
+    ensures few_nodes { IfSome result (λ solve. solve.nodes ≤ MOST_NODES) }
     ensures apart { IfSome result (λ solve. bytes_eq solve.plan.now solve.certificate.now ≡ false) }
 {
     let [command, domain, problem, plan, certificate, rest @ ..] = words else {
@@ -121,11 +122,11 @@ fn are_apart(domain: &str, problem: &str, plan: &str, certificate: &str) -> bool
         && plan != certificate
 }
 
-/// The budget that the words behind the names give.
+/// The budget that the words after the names give.
 fn budget(words: &[String]) -> Option<u32>
     ensures value { result ≡ budget_of (map string_bytes words.now) }
     ensures some_nodes { IfSome result (λ nodes. 1 ≤ nodes) }
-    ensures few_nodes { IfSome result (λ nodes. nodes ≤ 2 ^ 24) }
+    ensures few_nodes { IfSome result (λ nodes. nodes ≤ MOST_NODES) }
 {
     match words {
         [] => Some(DEFAULT_NODES),
@@ -138,7 +139,7 @@ fn budget(words: &[String]) -> Option<u32>
 fn nodes(word: &[u8]) -> Option<u32>
     ensures value { result ≡ nodes_of word.now }
     ensures some_nodes { IfSome result (λ nodes. 1 ≤ nodes) }
-    ensures few_nodes { IfSome result (λ nodes. nodes ≤ 2 ^ 24) }
+    ensures few_nodes { IfSome result (λ nodes. nodes ≤ MOST_NODES) }
 {
     if word.first().is_none_or(|first| *first <= b'0') {
         return None;

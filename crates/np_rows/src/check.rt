@@ -1,5 +1,6 @@
 //! Answers of `check`, worked by hand.
 use crate::trial::{NONE_BELOW_THREE, RISE, SINK, STEPS, THREE, expect_check, shelf};
+use std::alloc::{AllocError, Global};
 use std::test::Fail;
 
 const NOT_BUILT: &str = "Refused: not built yet\n";
@@ -131,7 +132,7 @@ fn check_answers(rt: HostRuntime) -> Result<(), Fail> {
     Ok(())
 }
 
-/// The values of an entry stand in the order in which the tests first read the functions: b, and then a. The action's two
+/// The values of an entry come in the order in which the tests first read the functions: b, and then a. The action's two
 /// changes of a come to nothing, and its two tests of b are one.
 const NUMBERED: &str = "(define (domain d) (:functions (a) (b)) (:action go :parameters ()
  :precondition (and (>= (b) 1) (>= (b) 01) (>= (a) -0))
@@ -183,5 +184,22 @@ fn check_answers_for_other_pairs(rt: HostRuntime) -> Result<(), Fail> {
         shelf.set("cert", certificate.as_bytes())?;
         expect_check(&rt, &mut shelf, answer, *status)?;
     }
+    Ok(())
+}
+
+/// A comment of more bytes than a domain may have, and after it the certificate.
+fn long_certificate(alloc: Global) -> Result<Vec<u8>, AllocError> {
+    let mut text = vec![in alloc; b';'; 16_777_216]?;
+    text.push(b'\n')?;
+    text.extend_from_slice(NONE_BELOW_THREE.as_bytes())?;
+    Ok(text)
+}
+
+#[test]
+fn a_certificate_may_be_long(rt: HostRuntime) -> Result<(), Fail> {
+    let mut shelf = shelf(rt.alloc(), STEPS.as_bytes(), THREE.as_bytes())?;
+    let certificate = long_certificate(rt.alloc())?;
+    shelf.set("cert", certificate.as_slice())?;
+    expect_check(&rt, &mut shelf, "Yes: no plan costs less than 3\n", 0)?;
     Ok(())
 }

@@ -91,7 +91,7 @@ pub fn expect_solve(
     )
 }
 
-/// Compares what stands under a name.
+/// Compares what is under a name.
 pub fn expect_file(rt: &impl Abort, shelf: &MemoryShelf, name: &str, want: Option<&str>) {
     match (shelf.get(name), want) {
         (None, None) => {}
@@ -100,7 +100,7 @@ pub fn expect_file(rt: &impl Abort, shelf: &MemoryShelf, name: &str, want: Optio
     }
 }
 
-/// Checks what stands under `cert` for the pair on the shelf, and compares its status and what it pushed.
+/// Checks what is under `cert` for the pair on the shelf, and compares its status and what it pushed.
 pub fn expect_check(
     rt: &(impl Abort + AllocGlobal),
     shelf: &mut MemoryShelf,

@@ -1,9 +1,9 @@
 //! The parts of a certificate.
 
 ghost use Rattle.std.specs.Prelude.{◌^◌};
-ghost use Rattle.np_lex.specs.Lexers.{pieces_left};
+ghost use Rattle.np_read.specs.Pieces.{pieces_left};
 ghost use Rattle.np_cert.specs.ReadingAnswers.{Gives};
-ghost use Rattle.np_lex.specs.Readers as steps;
+ghost use Rattle.np_read.specs.Readers as steps;
 ghost use Rattle.np_cert.specs.ReadingForm as form;
 
 use super::fault::CertFault;

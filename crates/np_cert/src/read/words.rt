@@ -4,32 +4,20 @@ ghost use Rattle.std.specs.Prelude.{◌≡◌, ◌↔◌, ◌^◌, ◌<◌, ◌�
 ghost use Rattle.std.specs.Option.{option_map};
 ghost use Rattle.np_lex.specs.LongestToken.{is_name};
 ghost use Rattle.np_lex.specs.Tokens.{lower};
-ghost use Rattle.np_lex.specs.Lexers.{pieces_left};
+ghost use Rattle.np_read.specs.Pieces.{pieces_left};
 ghost use Rattle.np_cert.specs.Text.{most};
 ghost use Rattle.np_cert.specs.ReadingAnswers.{Gives};
-ghost use Rattle.np_lex.specs.Readers as steps;
+ghost use Rattle.np_read.specs.Readers as steps;
 ghost use Rattle.np_lex.specs.Tokens as tokens;
 ghost use Rattle.np_cert.specs.ReadingForm as form;
 
 use super::fault::CertFault;
 use crate::certificate::Limit;
 use itoa::Buffer;
-use np_lex::{Lexer, Place, decimal_in_front, is_word};
+use np_lex::{Lexer, first_decimal, is_word};
 
 /// Every number but those of facts is below this in size.
 const MOST: u128 = 100_000_000_000_000_000_000_000_000_000_000_000_000;
-
-/// The place of the next token, of a bad byte or of the end, whichever comes next.
-#[cold]
-#[inline(never)]
-pub fn place_of_next(lexer: &Lexer<'_>) -> Place {
-    let mut rest = *lexer;
-    match rest.next() {
-        Ok(Some(token)) => token.place,
-        Ok(None) => rest.end(),
-        Err(error) => error.place,
-    }
-}
 
 /// Reads an opening bracket.
 #[inline(always)]
@@ -37,7 +25,7 @@ fn left(lexer: &mut Lexer<'_>) -> Result<(), CertFault>
     ensures { Gives (λ _. (tt, pieces_left lexer.new)) result (steps.expect tokens.left (pieces_left lexer.old)) }
 {
     if !lexer.take_left() {
-        return Err(CertFault::At(place_of_next(lexer)));
+        return Err(CertFault::At(lexer.place()));
     }
     Ok(())
 }
@@ -48,7 +36,7 @@ pub fn right(lexer: &mut Lexer<'_>) -> Result<(), CertFault>
     ensures { Gives (λ _. (tt, pieces_left lexer.new)) result (steps.expect tokens.right (pieces_left lexer.old)) }
 {
     if !lexer.take_right() {
-        return Err(CertFault::At(place_of_next(lexer)));
+        return Err(CertFault::At(lexer.place()));
     }
     Ok(())
 }
@@ -61,12 +49,12 @@ pub fn name(lexer: &mut Lexer<'_>, text: &[u8]) -> Result<(), CertFault>
     ensures { Gives (λ _. (tt, pieces_left lexer.new)) result (steps.expect (tokens.named text.now) (pieces_left lexer.old)) }
 {
     if !lexer.take_name(text) {
-        return Err(CertFault::At(place_of_next(lexer)));
+        return Err(CertFault::At(lexer.place()));
     }
     Ok(())
 }
 
-/// Reads an opening bracket and this name behind it.
+/// Reads an opening bracket, and then this name.
 #[inline(always)]
 pub fn open(lexer: &mut Lexer<'_>, text: &[u8]) -> Result<(), CertFault>
     requires name { IsTrue (is_name text.now) }
@@ -83,10 +71,10 @@ pub fn numeral(lexer: &mut Lexer<'_>, text: &[u8]) -> Result<(), CertFault>
 {
     let before = *lexer;
     let Some(found) = lexer.take_number() else {
-        return Err(CertFault::At(place_of_next(&before)));
+        return Err(CertFault::At(before.place()));
     };
     if !is_word(found, text) {
-        return Err(CertFault::At(place_of_next(&before)));
+        return Err(CertFault::At(before.place()));
     }
     Ok(())
 }
@@ -131,13 +119,13 @@ fn natural_of(text: &[u8], bound: u128) -> Option<u128>
     ensures value { result ≡ form.natural_of bound text.now }
     ensures below { IfSome result (λ n. n < bound) }
 {
-    match decimal_in_front(text) {
+    match first_decimal(text) {
         Some((number, count)) if count == text.len() => below(number, bound),
         _ => long_natural_of(text, bound),
     }
 }
 
-/// The number that the text says, with `-` in front where it is below 0.
+/// The number that the text says, after `-` one below 0.
 #[tactic(auto, unfolding(crate::specs::ReadingForm::integer_of))]
 fn integer_of(text: &[u8]) -> Option<i128>
     ensures { result ≡ form.integer_of text.now }
@@ -158,7 +146,6 @@ fn integer_of(text: &[u8]) -> Option<i128>
 
 /// The number below the bound that comes next, which is read. None where no such number comes next; then the lexer may have
 /// passed one.
-#[tactic(auto, unfolding(crate::specs::ReadingForm::natural), using(crate::proofs::ReadingNumbers::natural_of_lower))]
 fn next_natural(lexer: &mut Lexer<'_>, bound: u128) -> Option<u128>
     requires bound { bound ≤ most }
     ensures value { form.natural bound (pieces_left lexer.old) ≡ option_map (λ n. (n, pieces_left lexer.new)) result }
@@ -173,7 +160,6 @@ fn next_natural(lexer: &mut Lexer<'_>, bound: u128) -> Option<u128>
 
 /// The number with or without a sign that comes next, which is read. None where no such number comes next; then the lexer
 /// may have passed one.
-#[tactic(auto, unfolding(crate::specs::ReadingForm::integer), using(crate::proofs::ReadingNumbers::integer_of_lower))]
 fn next_integer(lexer: &mut Lexer<'_>) -> Option<i128>
     ensures { form.integer (pieces_left lexer.old) ≡ option_map (λ n. (n, pieces_left lexer.new)) result }
 {
@@ -188,7 +174,7 @@ pub fn fact(lexer: &mut Lexer<'_>) -> Result<u32, CertFault>
     let before = *lexer;
     match next_natural(lexer, 1 << 32) {
         Some(number) => Ok(number as u32),
-        None => Err(CertFault::At(place_of_next(&before))),
+        None => Err(CertFault::At(before.place())),
     }
 }
 
@@ -203,7 +189,7 @@ pub fn integer(lexer: &mut Lexer<'_>) -> Result<i128, CertFault>
     let before = *lexer;
     match next_integer(lexer) {
         Some(number) => Ok(number),
-        None => Err(CertFault::At(place_of_next(&before))),
+        None => Err(CertFault::At(before.place())),
     }
 }
 
@@ -218,7 +204,7 @@ fn none_or_long(lexer: &mut Lexer<'_>) -> Result<Limit, CertFault>
     let before = *lexer;
     match next_natural(lexer, MOST) {
         Some(number) => Ok(Limit::Number(number)),
-        None => Err(CertFault::At(place_of_next(&before))),
+        None => Err(CertFault::At(before.place())),
     }
 }
 

@@ -1,7 +1,7 @@
 use Rattle.std.proofs.Common.{◌≡◌, List, Some, length, get_or, slice_get, refl, ap, sym, ◌∙◌, subst}
 use Rattle.std.proofs.lemmas.Option.{slice_get_read}
 use Rattle.np_cert.specs.declared.certificate.Entry.{Entry}
-use Rattle.np_cert.specs.Valid.{IsRepeated, IsJustified}
+use Rattle.np_cert.specs.Valid.{IsRepeated}
 use Rattle.np_check.proofs.Faults.{once_first, good_more}
 use Rattle.np_check.proofs.check.fault_at.Goals as goal
 
@@ -17,6 +17,6 @@ returns c =
     in
     let there_first : slice_get c.args.first.now n ≡ Some e = ap (λ (es : List Entry). slice_get es n) same ∙ there in
     let once = once_first c.args.first.now n e c.number_of.result there_first c.number_of.ensures c.if-ne.ensures in
-    good_more task entries n e there c.requires.before
+    good_more task c.args.certificate.now n e there c.requires.before
     (λ r. once (subst (λ (es : List Entry). IsRepeated es n) (sym same) r))
-    (subst (λ (es : List Entry). IsJustified task es e) same (c.in_ok-is_justified.ensures.0 c.if-not-branch.false))
+    (c.in_ok-is_justified.ensures.0 c.if-not-branch.false)

@@ -6,4 +6,4 @@ pub returns : goal.returns
 returns c =
     let entries = c.args.certificate.now.entries in
     let all : ◌≡◌ c.loop-number.number (length entries) = omega (arith, c.len-number-end.ensures) in
-    subst (AreGood c.args.flat.now entries) all c.loop-number.invariant
+    subst (AreGood c.args.flat.now c.args.certificate.now) all c.loop-number.invariant

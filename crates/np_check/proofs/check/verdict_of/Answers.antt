@@ -1,12 +1,12 @@
-use Rattle.std.proofs.Common.{◌∙◌, length}
+use Rattle.std.proofs.Common.{All, subst}
 use Rattle.std.proofs.lemmas.Option.{MatchOption-at_none}
-use Rattle.np_check.specs.Verdicts.{AreGood, IsVerdict}
-use Rattle.np_check.proofs.Faults.{valid_is}
+use Rattle.np_cert.specs.Valid.{IsValidProof}
+use Rattle.np_check.specs.Verdicts.{IsBadProof}
 use Rattle.np_check.proofs.check.verdict_of.Goals as goal
 
-pub returns-then-is_claimed : goal.returns-then-is_claimed
-returns-then-is_claimed c =
+pub verdict_of_entries-requires : goal.verdict_of_entries-requires
+verdict_of_entries-requires c =
     let task = c.args.flat.now in
-    let certificate = c.args.certificate.now in
-    let good = MatchOption-at_none (AreGood task certificate.entries (length certificate.entries)) (IsVerdict task certificate) c.in_default.is c.in_ok-fault.ensures in
-    valid_is task certificate c.in_ok-first.first c.requires.thin (c.in_ok-first.ensures ∙ c.as_slice.ensures) good (c.is_claimed.ensures.0 c.if-is_claimed.true)
+    let proofs = c.as_slice.result.now in
+    subst (All (IsValidProof task)) c.as_slice.ensures
+    (MatchOption-at_none (All (IsValidProof task) proofs) (IsBadProof task proofs) c.in_default.is c.first_bad_proof.ensures)

@@ -1,4 +1,4 @@
--- One more part of the bytes stands in the writer.
+-- One more part of the bytes is in the writer.
 use Rattle.std.proofs.Common.{◌++◌, ◌∙◌, sym, ap, subst, take, rules}
 use Rattle.std.specs.Io.KnownBytes.{Appends}
 use Rattle.std.proofs.KnownBytes.{Appends-trans}

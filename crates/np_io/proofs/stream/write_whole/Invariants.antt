@@ -1,4 +1,4 @@
--- What was written so far stands in the writer.
+-- What was written so far is in the writer.
 use Rattle.std.proofs.Common.{◌≤◌, length, take}
 use Rattle.std.specs.Io.KnownBytes.{Appends}
 use Rattle.np_io.proofs.stream.write_whole.Given as goal

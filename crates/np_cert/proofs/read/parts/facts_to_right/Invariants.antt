@@ -1,8 +1,8 @@
 use Rattle.std.proofs.Common.{◌≡◌, length, ◌^◌}
-use Rattle.np_lex.specs.Lexers.{pieces_left}
-use Rattle.np_lex.specs.Readers.{row}
+use Rattle.np_read.specs.Pieces.{pieces_left}
+use Rattle.np_read.specs.Readers.{row}
 use Rattle.np_cert.specs.ReadingForm.{natural}
-use Rattle.np_lex.proofs.ReaderLaws.{with_front}
+use Rattle.np_read.proofs.ReaderLaws.{with_front}
 use Rattle.np_cert.proofs.read.parts.facts_to_right.Given as goal
 
 abbrev pub invariant-row : goal.invariant-row

@@ -1,5 +1,5 @@
 use Rattle.std.proofs.Common.{rules, ◌∙◌, ap, sym, Some}
-use Rattle.np_lex.specs.Lexers.{pieces_left}
+use Rattle.np_read.specs.Pieces.{pieces_left}
 use Rattle.np_cert.specs.declared.certificate.Limit.TheVariants.{Number}
 use Rattle.np_cert.proofs.ReadingLexemes.{limit_taken}
 use Rattle.np_cert.proofs.read.words.limit.Goals as goal

@@ -1,5 +1,5 @@
 use Rattle.np_lex.specs.Tokens.{named}
-use Rattle.np_cert.proofs.ReadingLexemes.{is_taken, is_left}
+use Rattle.np_read.proofs.Lexing.{is_taken, is_left}
 use Rattle.np_cert.proofs.read.words.name.Goals as goal
 
 pub returns-then-not-take_name : goal.returns-then-not-take_name

@@ -1,7 +1,8 @@
 use Rattle.std.specs.Prelude.{codes}
-use Rattle.np_lex.specs.Lexers.{pieces_left}
+use Rattle.np_read.specs.Pieces.{pieces_left}
 use Rattle.np_lex.specs.Tokens.{named}
-use Rattle.np_cert.proofs.ReadingLexemes.{is_taken, limit_none, limit_number, limit_other}
+use Rattle.np_read.proofs.Lexing.{is_taken}
+use Rattle.np_cert.proofs.ReadingLexemes.{limit_none, limit_number, limit_other}
 use Rattle.np_cert.proofs.read.words.none_or_long.Goals as goal
 
 pub returns-then-take_name : goal.returns-then-take_name

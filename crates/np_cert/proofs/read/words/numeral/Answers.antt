@@ -2,7 +2,7 @@ use Rattle.std.proofs.Common.{subst, sym, ◌∙◌, true≢false}
 use Rattle.np_lex.specs.Tokens.{lower}
 use Rattle.np_lex.specs.Lexers.{Takes}
 use Rattle.np_lex.specs.Tokens.{numeral}
-use Rattle.np_cert.proofs.ReadingLexemes.{is_taken, other_text, no_numeral}
+use Rattle.np_read.proofs.Lexing.{is_taken, other_text, no_numeral}
 use Rattle.np_cert.proofs.read.words.numeral.Goals as goal
 
 pub returns-in_default : goal.returns-in_default

@@ -1,5 +1,5 @@
 use Rattle.np_lex.specs.Tokens.{right}
-use Rattle.np_cert.proofs.ReadingLexemes.{is_taken, is_left}
+use Rattle.np_read.proofs.Lexing.{is_taken, is_left}
 use Rattle.np_cert.proofs.read.words.right.Goals as goal
 
 pub returns-then-not-take_right : goal.returns-then-not-take_right

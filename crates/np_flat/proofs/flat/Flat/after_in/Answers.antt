@@ -8,12 +8,12 @@ pub returns-clause-state_of : goal.returns-clause-state_of
 returns-clause-state_of c =
     on_ok_weaker c.leave_after.result
     (λ is. is_state c.args.self.now c.as_slice.result.now c.args.step c.index-as_slice-step.result c.args.state.now c.leave_after.new.after
-    (subst IsFlat c.self.view_is c.self.invariant) (c.as_slice.ensures ∙ ap (λ p. p.steps) c.self.view_is) c.requires.number c.index-as_slice-step.is is c.requires.state)
+    (subst IsFlat c.self.view_is c.self.invariant.0) (c.as_slice.ensures ∙ ap (λ p. p.steps) c.self.view_is) c.requires.number c.index-as_slice-step.is is c.requires.state)
     c.leave_after.ensures
 
-pub returns-clause-near : goal.returns-clause-near
-returns-clause-near c =
+pub returns-clause-small : goal.returns-clause-small
+returns-clause-small c =
     on_ok_weaker c.leave_after.result
     (λ is. is_near c.args.self.now c.as_slice.result.now c.args.step c.index-as_slice-step.result c.args.state.now c.leave_after.new.after
-    (subst IsFlat c.self.view_is c.self.invariant) (c.as_slice.ensures ∙ ap (λ p. p.steps) c.self.view_is) c.requires.number c.index-as_slice-step.is is c.requires.small)
+    (subst IsFlat c.self.view_is c.self.invariant.0) (c.as_slice.ensures ∙ ap (λ p. p.steps) c.self.view_is) c.requires.number c.index-as_slice-step.is is c.requires.within)
     c.leave_after.ensures

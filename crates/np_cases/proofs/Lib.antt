@@ -1,0 +1,2 @@
+pub mod LeastTask
+pub mod LoweringTask

@@ -1,0 +1,23 @@
+//! The public calls of the crates below the planner, tried at values that were worked by hand. There is nothing here but tests.
+#![tactic(auto)]
+
+#[cfg(test)]
+mod cert_printing;
+#[cfg(test)]
+mod cert_reading;
+#[cfg(test)]
+mod check;
+#[cfg(test)]
+mod flat;
+#[cfg(test)]
+mod frac;
+#[cfg(test)]
+mod io;
+#[cfg(test)]
+mod lex;
+#[cfg(test)]
+mod model;
+#[cfg(test)]
+mod read;
+#[cfg(test)]
+mod state;

@@ -1,0 +1,16 @@
+//! A bound against a cost and a limit together.
+ghost use Rattle.std.specs.Prelude.{◌≡◌, IsTrue};
+ghost use Rattle.np_cert.specs.Valid.{at_most, after_cost, is_small};
+
+use np_cert::Limit;
+
+/// Whether a small bound is at most a cost and a limit together. The limit may be any number of its type.
+pub fn is_within(bound: Limit, cost: u64, rest: Limit) -> bool
+    requires { IsTrue (is_small bound) }
+    ensures { result ≡ at_most bound (after_cost cost rest) }
+{
+    match rest.after_cost(cost) {
+        Some(limit) => bound.at_most(limit),
+        None => bound != Limit::Absent,
+    }
+}

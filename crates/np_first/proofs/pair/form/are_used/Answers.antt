@@ -1,0 +1,31 @@
+use Rattle.std.proofs.Common.{sym, ◌∙◌, true≢false}
+use Rattle.np_first.specs.FirstForm.{tested, affected, valued}
+use Rattle.np_first.proofs.pair.form.are_used.Goals as goal
+use Rattle.np_first.proofs.pair.form.are_used.Goals.{then-covers, else-covers}
+
+pub returns-then-covers-2 : goal.returns-then-covers-2
+returns-then-covers-2 c =
+    let d = c.args.domain.now in
+    let p = c.args.problem.now in
+    let n = c.requires in
+    let first = c.covers.ensures (valued p) d.functions n.valued_are n.functions in
+    let third = c.covers-then-covers-2.ensures (tested d p) d.functions n.tested_are n.functions in
+    elim c.if-covers.branch [
+      | then-covers w ↦
+          let second = w.covers-then-covers.ensures (affected d) d.functions n.affected_are n.functions in
+          (λ yes. (first.0 w.if-covers.true, second.0 (sym w.value-is ∙ c.if-covers-2.true), third.0 yes), λ all. third.1 all.2)
+      | else-covers w ↦ absurd (true≢false (sym c.if-covers-2.true ∙ w.value-is ∙ w.if-covers.false))
+    ]
+
+pub returns-else-covers-2 : goal.returns-else-covers-2
+returns-else-covers-2 c =
+    let d = c.args.domain.now in
+    let p = c.args.problem.now in
+    let n = c.requires in
+    let first = c.covers.ensures (valued p) d.functions n.valued_are n.functions in
+    elim c.if-covers.branch [
+      | then-covers w ↦
+          let second = w.covers-then-covers.ensures (affected d) d.functions n.affected_are n.functions in
+          (λ yes. absurd (true≢false (sym yes ∙ c.if-covers-2.false)), λ all. absurd (true≢false (sym (second.1 all.1) ∙ sym w.value-is ∙ c.if-covers-2.false)))
+      | else-covers w ↦ (λ yes. absurd (true≢false (sym yes ∙ c.if-covers-2.false)), λ all. absurd (true≢false (sym (first.1 all.0) ∙ w.if-covers.false)))
+    ]

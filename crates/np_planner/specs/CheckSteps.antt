@@ -1,0 +1,40 @@
+-- SCAFFOLDING. What the steps of `check` come to.
+use Rattle.std.specs.Prelude.{◌≡◌, ℕ, ⊤, List}
+use Rattle.np_io.specs.Seen.{SeenShelf}
+use Rattle.np_flat.specs.declared.parts.Parts.{Parts}
+use Rattle.np_cert.specs.declared.certificate.Certificate.{Certificate}
+use Rattle.np_cert.specs.Text.{Spells}
+use Rattle.np_cert.specs.Valid.{IsValid}
+use Rattle.np_check.specs.Verdicts.{IsVerdict}
+use Rattle.np_planner.specs.declared.answer.check.CheckAnswer.{CheckAnswer}
+use Rattle.np_planner.specs.declared.answer.check.CheckAnswer.TheVariants.{Yes, No}
+use Rattle.np_planner.specs.declared.answer.Answer.{Answer}
+use Rattle.np_planner.specs.declared.answer.Answer.TheVariants.{CannotRead, Refused, Checked, OutOfMemory}
+use Rattle.np_planner.specs.declared.answer.File.TheVariants as file
+use Rattle.np_planner.specs.Shelves.{ReadFailed}
+use Rattle.np_planner.specs.CheckAnswers.{verdict_of}
+use Rattle.np_planner.specs.RightAnswers.{IsCertificateReason}
+
+-- the answer where the bytes of a certificate can't be had
+abbrev pub IsNotFetched : List ℕ → SeenShelf → SeenShelf → Answer → Type 0
+IsNotFetched name old new (CannotRead file.Certificate) = ReadFailed name old new
+IsNotFetched name old new OutOfMemory = new ≡ old
+IsNotFetched name old new answer = ⊥
+
+-- what an answer says of a flat task and a certificate
+abbrev pub IsTrueFor : Parts → Certificate → CheckAnswer → Type 0
+IsTrueFor flat c (Yes claim) = (c.claim ≡ claim) × IsValid flat c
+IsTrueFor flat c (No fault) = IsVerdict flat c (verdict_of fault)
+
+-- the bytes spell a certificate, of which the answer is true
+pub record IsJudgedBy (flat : Parts) (bytes : List ℕ) (answer : CheckAnswer) : Type 0 where
+  pub certificate : Certificate
+  pub spelled : Spells bytes certificate
+  pub true_answer : IsTrueFor flat certificate answer
+
+-- the answer to the bytes of a certificate for a flat task
+abbrev pub IsJudged : Parts → List ℕ → Answer → Type 0
+IsJudged flat bytes (Refused refusal) = ((c : Certificate) → Spells bytes c → ⊥) × IsCertificateReason bytes refusal
+IsJudged flat bytes (Checked answer) = IsJudgedBy flat bytes answer
+IsJudged flat bytes OutOfMemory = ⊤
+IsJudged flat bytes answer = ⊥

@@ -1,0 +1,16 @@
+-- SCAFFOLDING. What the read of one file comes to.
+use Rattle.std.specs.Prelude.{◌≡◌, ℕ, List}
+use Rattle.np_io.specs.Seen.{SeenShelf}
+use Rattle.np_io.specs.Files.{IsLonger}
+use Rattle.np_planner.specs.declared.answer.File.{File}
+use Rattle.np_planner.specs.declared.answer.refusal.Refusal.TheVariants.{TooLong}
+use Rattle.np_planner.specs.declared.answer.Answer.{Answer}
+use Rattle.np_planner.specs.declared.answer.Answer.TheVariants.{CannotRead, Refused, OutOfMemory}
+use Rattle.np_planner.specs.Shelves.{ReadFailed}
+
+-- the answer for a file of at most so many bytes that can't be had
+abbrev pub IsNotRead : File → List ℕ → ℕ → SeenShelf → SeenShelf → Answer → Type 0
+IsNotRead file name limit old new (CannotRead f) = (f ≡ file) × ReadFailed name old new
+IsNotRead file name limit old new (Refused (TooLong f)) = (f ≡ file) × (new ≡ old) × IsLonger old.files name limit
+IsNotRead file name limit old new OutOfMemory = new ≡ old
+IsNotRead file name limit old new answer = ⊥

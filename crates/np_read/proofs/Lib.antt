@@ -1,0 +1,14 @@
+pub mod Answers
+pub mod FirstFaults
+pub mod Good
+pub mod GoodParts
+pub mod ItemChoices
+pub mod ItemLexing
+pub mod Lexing
+pub mod Pieces
+pub mod Printed
+pub mod ReaderLaws
+pub mod Same
+pub mod Shifts
+pub mod Spelled
+pub mod Texts

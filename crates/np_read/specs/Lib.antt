@@ -1,0 +1,9 @@
+pub mod Answers
+pub mod Faults
+pub mod ItemAnswers
+pub mod ItemReaders
+pub mod Lexemes
+pub mod Pieces
+pub mod Printers
+pub mod Readers
+pub mod Same

@@ -1,9 +1,0 @@
-pub mod SearchAnswers
-pub mod SearchBegin
-pub mod SearchCover
-pub mod SearchExpanded
-pub mod SearchGrowth
-pub mod SearchKeys
-pub mod SearchMoves
-pub mod SearchPaths
-pub mod SearchSteps

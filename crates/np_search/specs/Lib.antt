@@ -1,4 +1,0 @@
-pub mod Counters
-pub mod Explored
-pub mod Found
-pub mod SearchTree

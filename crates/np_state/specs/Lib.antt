@@ -1,0 +1,6 @@
+pub mod Cells
+pub mod CellLaws
+pub mod Bits
+pub mod StateValues
+pub mod States
+pub mod Interning

@@ -1,4 +1,0 @@
-pub mod ReadingForms
-pub mod ReadingLaws
-pub mod ReadingTexts
-pub mod ReadingWords

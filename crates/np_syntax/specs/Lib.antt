@@ -1,3 +1,0 @@
-pub mod ReadingAnswers
-pub mod ReadingForm
-pub mod Syntax
