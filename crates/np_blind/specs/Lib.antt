@@ -1,0 +1,5 @@
+pub mod Bits
+pub mod Readings
+pub mod Sizes
+pub mod Spaces
+pub mod Laws

@@ -1,0 +1,9 @@
+pub mod Opens
+pub mod Keys
+pub mod Spaces
+pub mod Weights
+pub mod Frontiers
+pub mod Outcomes
+pub mod Changes
+pub mod Trees
+pub mod Choices
