@@ -1,2 +1,3 @@
 pub mod LeastTask
 pub mod LoweringTask
+pub mod GraphPlans

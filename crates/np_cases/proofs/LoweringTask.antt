@@ -9,6 +9,7 @@ use Rattle.np_flat.specs.declared.parts.Subgoal.{Subgoal}
 use Rattle.np_flat.specs.declared.parts.Subgoal.TheVariants as subgoal
 use Rattle.np_flat.specs.declared.parts.FlatStep.{FlatStep}
 use Rattle.np_flat.specs.declared.parts.Form.{Form}
+use Rattle.np_flat.specs.declared.state.FlatState.{FlatState}
 use Rattle.np_flat.specs.Flats.{AreNumbers, AreAmounts, IsForm, IsSubgoal, IsStep, IsFlat}
 use Rattle.np_flat.proofs.Ascending.{ascending_nil, ascending_cons}
 
@@ -91,12 +92,12 @@ subgoals_apart (suc (suc i)) (suc zero) d lt h = absurd (omega arith)
 subgoals_apart (suc (suc i)) (suc (suc zero)) d lt h = absurd (omega arith)
 subgoals_apart i (suc (suc (suc j))) d lt h = absurd (omega arith)
 
-pub example_is : (facts : List Atom) (values : List Term) (empty : List ℕ) (start : List ℤ) (subgoals : List Subgoal) (steps : List FlatStep) (goal : List ℕ) (a b : FlatStep)
-    → length facts ≡ 1 → length values ≡ 2 → empty ≡ [] → start ≡ pos 3 ∷ negsuc 0 ∷ []
+pub example_is : (facts : List Atom) (values : List Term) (start : FlatState) (subgoals : List Subgoal) (steps : List FlatStep) (goal : List ℕ)
+    → length facts ≡ 1 → length values ≡ 2 → start ≡ record { facts = []; values = pos 3 ∷ negsuc 0 ∷ [] }
     → subgoals ≡ subgoal.Fact 0 ∷ subgoal.NotFact 0 ∷ subgoal.Form (record { constant = negsuc 4; terms = (0, pos 2) ∷ (1, pos 1) ∷ [] }) ∷ []
-    → steps ≡ a ∷ b ∷ [] → a ≡ first → b ≡ second → goal ≡ 0 ∷ 2 ∷ []
-    → IsFlat (record { unit = pos 1; facts = facts; values = values; start = record { facts = empty; values = start }; subgoals = subgoals; steps = steps; goal = goal })
-example_is facts values empty start subgoals steps goal a b f v e s q st ea eb g = rw (e, s, q, st, ea, eb, g) record {
+    → steps ≡ first ∷ second ∷ [] → goal ≡ 0 ∷ 2 ∷ []
+    → IsFlat (record { unit = pos 1; facts = facts; values = values; start = start; subgoals = subgoals; steps = steps; goal = goal })
+example_is facts values start subgoals steps goal f v s q st g = rw (s, q, st, g) record {
   positive = record { lt = tt };
   unit = lit< tt;
   few_facts = omega (arith, f);

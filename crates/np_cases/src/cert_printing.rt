@@ -1,19 +1,14 @@
 //! Certificates as they are printed.
 
-ghost use Rattle.std.specs.Prelude.{◌≡◌, All, IfOk};
-ghost use Rattle.np_cert.specs.declared.certificate.Why.TheVariants.{Expanded};
-ghost use Rattle.np_cert.specs.Text.{IsThin};
-
-use np_cert::{Certificate, Entry, Limit, Why, print_certificate};
+use crate::cert_reading::FULL;
+use np_cert::{Certificate, Entry, Limit, Why, print_certificate, read_certificate};
 use np_flat::FlatState;
 use sqlite_items::Items;
 use std::alloc::{AllocError, Global};
 use std::test::Fail;
 
 /// An entry by expansion.
-fn entry(alloc: Global, facts: &[u32], values: &[i128], bound: Limit) -> Result<Entry, AllocError>
-    ensures { IfOk result (λ e. e.why ≡ Expanded) }
-{
+fn entry(alloc: Global, facts: &[u32], values: &[i128], bound: Limit) -> Result<Entry, AllocError> {
     Ok(Entry {
         state: FlatState {
             facts: Items::from_slice(alloc, facts)?,
@@ -24,11 +19,8 @@ fn entry(alloc: Global, facts: &[u32], values: &[i128], bound: Limit) -> Result<
     })
 }
 
-/// A certificate of the thin form.
-fn certificate(alloc: Global, claim: Limit, entries: Vec<Entry>) -> Certificate
-    requires entries { All (λ e. e.why ≡ Expanded) entries.items }
-    ensures { IsThin result }
-{
+/// A certificate without proofs.
+fn certificate(alloc: Global, claim: Limit, entries: Vec<Entry>) -> Certificate {
     Certificate {
         claim,
         proofs: Items::new(alloc),
@@ -55,9 +47,27 @@ fn prints_entries(alloc: Global) -> Result<bool, AllocError> {
     )
 }
 
+/// A certificate that is read is printed as it was, whether it is of the thin form or not.
+fn prints_what_was_read(alloc: Global, text: &str, is_thin: bool) -> Result<bool, AllocError> {
+    let Ok(certificate) = read_certificate(alloc, text.as_bytes()) else {
+        return Ok(false);
+    };
+    let printed = print_certificate(alloc, &certificate)?;
+    let mut wanted = Vec::from_slice(alloc, text.as_bytes())?;
+    wanted.push(b'\n')?;
+    Ok(printed.as_slice() == wanted.as_slice() && certificate.is_thin() == is_thin)
+}
+
+const THIN: &str = "(certificate 1 (claim 1)
+(proofs)
+(entries
+(entry (facts) (values 0) 1 expanded)))";
+
 #[test]
 fn prints_certificates(rt: HostRuntime) -> Result<(), Fail> {
     assert!(rt; prints_nothing(rt.alloc())?);
     assert!(rt; prints_entries(rt.alloc())?);
+    assert!(rt; prints_what_was_read(rt.alloc(), FULL, false)?);
+    assert!(rt; prints_what_was_read(rt.alloc(), THIN, true)?);
     Ok(())
 }

@@ -61,6 +61,21 @@ const EDGES: &str = "(certificate 1 (claim none) (proofs) (entries (entry (facts
 (values -99999999999999999999999999999999999999 0 99999999999999999999999999999999999999 -1)
 99999999999999999999999999999999999999 expanded)))";
 
+/// A certificate with each row and each reason, as it is printed, but for the last line feed.
+pub const FULL: &str = "(certificate 1 (claim 12)
+(proofs
+(proof 18446744073709551615 (18446744073709551615 demand 0) (1 flow 2) (2 flow-not 3) (3 floor 4 -5) (4 cut 6 17))
+(proof 0))
+(entries
+(entry (facts 0 7) (values -10 0) none expanded)
+(entry (facts) (values) 3 (proof 1))
+(entry (facts) (values 99999999999999999999999999999999999999) 4 (table (0 none) (10 8)))))";
+
+/// Another one, with few blanks.
+const DENSE: &str =
+    "(Certificate 1(CLAIM none)(proofs(proof 3(1 flow-not 2)(20 cut 1 30)(4 flow 5)))(entries
+(entry(facts 1 2)(values -1 7)7(Table(3 40)))(entry(facts)(values)0(proof 21))(entry(facts)(values)1 expanded)))";
+
 /// Texts of no certificate, cut where reading stops.
 const REFUSED: &[(&str, &str)] = &[
     ("", ""),
@@ -76,7 +91,18 @@ const REFUSED: &[(&str, &str)] = &[
         "100000000000000000000000000000000000000) (proofs) (entries))",
     ),
     ("(certificate 1 (claim 3 ", "4) (proofs) (entries))"),
-    ("(certificate 1 (claim 3) (proofs ", "(proof 1)) (entries))"),
+    (
+        "(certificate 1 (claim 3) (proofs (proof 1 (",
+        "18446744073709551616 demand 0))) (entries))",
+    ),
+    (
+        "(certificate 1 (claim 3) (proofs (proof 1 (1 cut",
+        "))) (entries))",
+    ),
+    (
+        "(certificate 1 (claim 3) (proofs (proof 1 (1 ",
+        "rise 0))) (entries))",
+    ),
     ("(certificate 1 (claim 3) (proofs) (entries)", ""),
     ("(certificate 1 (claim 3) (proofs) (entries)) ", "x"),
     ("(certificate 1 (claim 3) (proofs) (entries))", ")"),
@@ -102,8 +128,16 @@ const REFUSED: &[(&str, &str)] = &[
         "-100000000000000000000000000000000000000) 0 expanded)))",
     ),
     (
-        "(certificate 1 (claim 3) (proofs) (entries (entry (facts) (values 0) 3 ",
-        "(proof 0))))",
+        "(certificate 1 (claim 3) (proofs) (entries (entry (facts) (values ",
+        "100000000000000000000000000000000000000) 0 expanded)))",
+    ),
+    (
+        "(certificate 1 (claim 3) (proofs) (entries (entry (facts) (values) ",
+        "1.0 expanded)))",
+    ),
+    (
+        "(certificate 1 (claim 3) (proofs) (entries (entry (facts) (values) 3 (",
+        "tables))))",
     ),
 ];
 
@@ -125,6 +159,54 @@ const WIDE: &[Expected<'static>] = &[(
     ],
     Limit::Number(99_999_999_999_999_999_999_999_999_999_999_999_999),
 )];
+
+/// Whether a token ends before this byte.
+fn is_break(byte: u8) -> bool {
+    matches!(byte, b' ' | b'\n' | b'(' | b')')
+}
+
+/// How many bytes are after the last blank or bracket.
+fn word_length(front: &[u8]) -> usize {
+    let mut length = 0_usize;
+    for byte in front {
+        length = if is_break(*byte) {
+            0
+        } else {
+            length.saturating_add(1)
+        };
+    }
+    length
+}
+
+/// Where a certificate's text that ends here, and goes on with this byte, has its first fault. That is the end, unless a token was cut to
+/// one that can't be there: digits and `flow` can.
+fn fault_of(front: &[u8], next: u8) -> usize {
+    let Some(last) = front.last() else {
+        return 0;
+    };
+    if is_break(*last) || is_break(next) || last.is_ascii_digit() || front.ends_with(b" flow") {
+        return front.len();
+    }
+    front.len().saturating_sub(word_length(front))
+}
+
+/// Whether reading stops at the first fault of each proper prefix.
+fn stops_in_each_prefix(alloc: Global, text: &[u8]) -> bool {
+    for length in 0..text.len() {
+        let front = &text[..length];
+        if !stops_at(alloc, front, fault_of(front, text[length])) {
+            return false;
+        }
+    }
+    true
+}
+
+#[test]
+fn finds_the_fault_of_each_prefix(rt: HostRuntime) -> Result<(), Fail> {
+    assert!(rt; stops_in_each_prefix(rt.alloc(), FULL.as_bytes()));
+    assert!(rt; stops_in_each_prefix(rt.alloc(), DENSE.as_bytes()));
+    Ok(())
+}
 
 #[test]
 fn reads_certificates(rt: HostRuntime) -> Result<(), Fail> {

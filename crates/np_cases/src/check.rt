@@ -1,49 +1,59 @@
 //! Limits, and the verdicts on certificates for the small flat task.
-use crate::flat::parts;
+use crate::flat::flat;
 use np_cert::{Certificate, Entry, Limit, Why};
 use np_check::{Verdict, check_certificate};
 use np_count::Proof;
 use np_flat::{Flat, FlatState};
 use sqlite_items::Items;
-use std::alloc::{AllocError, Global};
-use std::test::Fail;
+use std::process::Abort;
 
 /// The facts, the values and the bound of an entry by expansion.
 type Row<'a> = (&'a [u32], &'a [i128], Limit);
 
 /// The entry of a row, with this reason.
-fn entry(alloc: Global, row: &Row<'_>, why: Why) -> Result<Entry, AllocError> {
-    let facts = Items::from_slice(alloc, row.0)?;
-    let values = Items::from_slice(alloc, row.1)?;
-    Ok(Entry {
+fn entry(rt: &(impl Abort + AllocGlobal), row: &Row<'_>, why: Why) -> Entry {
+    let facts = Items::from_slice(rt.alloc(), row.0).expect(rt, "memory");
+    let values = Items::from_slice(rt.alloc(), row.1).expect(rt, "memory");
+    Entry {
         state: FlatState { facts, values },
         bound: row.2,
         why,
-    })
+    }
 }
 
-/// A certificate of entries by expansion.
-fn certificate(alloc: Global, claim: Limit, rows: &[Row<'_>]) -> Result<Certificate, AllocError> {
-    let mut entries = Items::new(alloc);
+/// The entries of these rows by expansion.
+fn entries(rt: &(impl Abort + AllocGlobal), rows: &[Row<'_>]) -> Items<Entry> {
+    let mut entries = Items::new(rt.alloc());
     for row in rows {
-        entries.push(entry(alloc, row, Why::Expanded)?)?;
+        entries
+            .push(entry(rt, row, Why::Expanded))
+            .expect(rt, "memory");
     }
-    Ok(Certificate {
+    entries
+}
+
+/// A certificate with no proof.
+fn certificate(
+    rt: &(impl Abort + AllocGlobal),
+    claim: Limit,
+    entries: Items<Entry>,
+) -> Certificate {
+    Certificate {
         claim,
-        proofs: Items::new(alloc),
+        proofs: Items::new(rt.alloc()),
         entries,
-    })
+    }
 }
 
 /// The verdict on a certificate of entries by expansion, for the small flat task.
 fn verdict(
-    alloc: Global,
+    rt: &(impl Abort + AllocGlobal),
     flat: &Flat,
     claim: Limit,
     rows: &[Row<'_>],
-) -> Result<Verdict, AllocError> {
-    let certificate = certificate(alloc, claim, rows)?;
-    Ok(check_certificate(alloc, flat, &certificate))
+) -> Verdict {
+    let certificate = certificate(rt, claim, entries(rt, rows));
+    check_certificate(rt.alloc(), flat, &certificate)
 }
 
 /// The order of limits.
@@ -128,69 +138,70 @@ const UNFIT: &[Row<'static>] = &[
 ];
 
 /// Whether the verdict is the case's.
-fn passes(alloc: Global, flat: &Flat, case: &Case) -> Result<bool, AllocError> {
-    Ok(verdict(alloc, flat, case.0, case.1)? == case.2)
+fn passes(rt: &(impl Abort + AllocGlobal), flat: &Flat, case: &Case) -> bool {
+    verdict(rt, flat, case.0, case.1) == case.2
 }
 
 /// Whether the row is refused as the fourth entry.
-fn is_unfit(alloc: Global, flat: &Flat, row: Row<'_>) -> Result<bool, AllocError> {
+fn is_unfit(rt: &(impl Abort + AllocGlobal), flat: &Flat, row: Row<'_>) -> bool {
     let rows = [START, LOWERED, RAISED, row];
-    Ok(verdict(alloc, flat, Limit::Number(3), &rows)? == Verdict::BadEntry(3))
+    verdict(rt, flat, Limit::Number(3), &rows) == Verdict::BadEntry(3)
 }
 
 /// Whether an entry with this reason is refused.
-fn is_no_reason(alloc: Global, flat: &Flat, why: Why) -> Result<bool, AllocError> {
-    let mut other = certificate(alloc, Limit::Number(0), &[])?;
-    other.entries.push(entry(alloc, &START, why)?)?;
-    Ok(check_certificate(alloc, flat, &other) == Verdict::BadEntry(0))
+fn is_no_reason(rt: &(impl Abort + AllocGlobal), flat: &Flat, why: Why) -> bool {
+    let mut entries = Items::new(rt.alloc());
+    entries.push(entry(rt, &START, why)).expect(rt, "memory");
+    let other = certificate(rt, Limit::Number(0), entries);
+    check_certificate(rt.alloc(), flat, &other) == Verdict::BadEntry(0)
 }
 
 /// Whether a proof is refused.
-fn is_no_proof(alloc: Global, flat: &Flat) -> Result<bool, AllocError> {
-    let mut other = certificate(alloc, Limit::Number(0), &[START, START])?;
-    other.proofs.push(Proof {
+fn is_no_proof(rt: &(impl Abort + AllocGlobal), flat: &Flat) -> bool {
+    let mut other = certificate(rt, Limit::Number(0), entries(rt, &[START, START]));
+    let proof = Proof {
         divisor: 1,
-        items: Items::new(alloc),
-    })?;
-    Ok(check_certificate(alloc, flat, &other) == Verdict::BadProof(0))
+        items: Items::new(rt.alloc()),
+    };
+    other.proofs.push(proof).expect(rt, "memory");
+    check_certificate(rt.alloc(), flat, &other) == Verdict::BadProof(0)
 }
 
 /// Whether each case has its verdict.
-fn all_pass(alloc: Global, flat: &Flat) -> Result<bool, AllocError> {
+fn all_pass(rt: &(impl Abort + AllocGlobal), flat: &Flat) -> bool {
     for case in CASES {
-        if !passes(alloc, flat, case)? {
-            return Ok(false);
+        if !passes(rt, flat, case) {
+            return false;
         }
     }
-    Ok(true)
+    true
 }
 
 /// Whether each unfit row is refused.
-fn all_are_unfit(alloc: Global, flat: &Flat) -> Result<bool, AllocError> {
+fn all_are_unfit(rt: &(impl Abort + AllocGlobal), flat: &Flat) -> bool {
     for row in UNFIT {
-        if !is_unfit(alloc, flat, *row)? {
-            return Ok(false);
+        if !is_unfit(rt, flat, *row) {
+            return false;
         }
     }
-    Ok(true)
+    true
+}
+
+/// Whether other reasons than expansion are refused.
+fn are_no_reasons(rt: &(impl Abort + AllocGlobal), flat: &Flat) -> bool {
+    is_no_reason(rt, flat, Why::Proof(0))
+        && is_no_reason(rt, flat, Why::Table(Items::new(rt.alloc())))
+        && is_no_proof(rt, flat)
 }
 
 /// Whether the verdicts for the small flat task are those of the tables.
-fn verdicts_are_right(alloc: Global) -> Result<bool, AllocError> {
-    let flat = Flat::new(alloc, parts(alloc)?)?;
-    if !all_pass(alloc, &flat)? || !all_are_unfit(alloc, &flat)? {
-        return Ok(false);
-    }
-    Ok(
-        is_no_reason(alloc, &flat, Why::Proof(0))?
-            && is_no_reason(alloc, &flat, Why::Table(Items::new(alloc)))?
-            && is_no_proof(alloc, &flat)?,
-    )
+fn verdicts_are_right(rt: &(impl Abort + AllocGlobal)) -> bool {
+    let flat = flat(rt);
+    all_pass(rt, &flat) && all_are_unfit(rt, &flat) && are_no_reasons(rt, &flat)
 }
 
 #[test]
-fn limits_and_verdicts(rt: HostRuntime) -> Result<(), Fail> {
+fn limits_and_verdicts(rt: HostRuntime) {
     assert!(rt; limits_are_ordered() && limits_are_raised() && limits_are_small());
-    assert!(rt; verdicts_are_right(rt.alloc())?);
-    Ok(())
+    assert!(rt; verdicts_are_right(&rt));
 }

@@ -2,6 +2,8 @@
 #![tactic(auto)]
 
 #[cfg(test)]
+mod blind;
+#[cfg(test)]
 mod cert_printing;
 #[cfg(test)]
 mod cert_reading;
@@ -19,5 +21,9 @@ mod lex;
 mod model;
 #[cfg(test)]
 mod read;
+#[cfg(test)]
+mod search;
+#[cfg(test)]
+mod space;
 #[cfg(test)]
 mod state;

@@ -1,62 +1,97 @@
--- What a lexer takes, and what it leaves, is what a reader of a certificate's pieces expects.
-use Rattle.std.proofs.Common.{◌≡◌, ℕ, ◌<◌, ◌^◌, ℤ, decimal, ltb, arith, Bool, true, cond, List, Option, None, Some, sym, ap, ◌∙◌}
+-- What a lexer takes, and what it leaves, is what a reader of a certificate reads.
+use Rattle.std.proofs.Common.{◌≡◌, ℕ, ◌<◌, ◌≤◌, ◌^◌, ℤ, decimal, ltb, arith, Bool, true, cond, List, [], None, Some, Ok, Err, refl, sym, ap, ◌∙◌}
 use Rattle.std.specs.Prelude.{codes}
-use Rattle.std.specs.Option.{option_map}
 use Rattle.std.proofs.lemmas.Bool.Decides.{nat_tests}
 use Rattle.np_lex.specs.declared.reading.Lexer.{Lexer}
-use Rattle.np_lex.specs.declared.token.Kind.TheVariants.{Number as NumberKind}
-use Rattle.np_lex.specs.Tokens.{named, numeral}
-use Rattle.np_lex.specs.Lexers.{Takes, Leaves}
-use Rattle.np_read.specs.Pieces.{Piece, pieces_left}
-use Rattle.np_read.specs.Readers.{Outcome, and_then, expect, in_front, made}
-use Rattle.np_read.proofs.Lexing.{is_left, no_number, number_taken}
-use Rattle.np_read.proofs.Pieces.{takes_piece}
+use Rattle.np_lex.specs.declared.token.Kind.TheVariants as kind
+use Rattle.np_lex.specs.Tokens.{Item, word, lower, named, numeral}
+use Rattle.np_lex.specs.Lexers.{items_left, Takes, Leaves}
+use Rattle.np_read.specs.ItemReaders.{Outcome, Reader, and_then, pure, made, number_by}
+use Rattle.np_read.proofs.ItemChoices.{either_other}
+use Rattle.np_read.proofs.ItemLexing.{number_taken, number_refused, number_missing, first_taken, second_taken}
+use Rattle.np_cert.specs.declared.certificate.Limit.{Limit}
 use Rattle.np_cert.specs.declared.certificate.Limit.TheVariants.{Number, Absent}
 use Rattle.np_cert.specs.Text.{most}
-use Rattle.np_cert.specs.ReadingForm.{natural_of, integer_of, none_or, natural, integer, limit}
-use Rattle.np_cert.proofs.ReadingNumbers.{natural_decimal}
+use Rattle.np_cert.specs.ReadingForm.{natural_of, integer_of, natural, integer, limit}
+use Rattle.np_cert.proofs.ReadingForms.{other_words}
+use Rattle.np_cert.proofs.ReadingNumbers.{natural_decimal, natural_of_lower, integer_of_lower}
 
--- ---- a number by its value
+-- ---- numbers without a sign
 
-pub natural_taken : (bound : ℕ) (old new : Lexer) (text : List ℕ) (result : Option ℕ) → Takes old new (numeral text) → natural_of bound text ≡ result → natural bound (pieces_left old) ≡ option_map (λ a. (a, pieces_left new)) result
-unfolding natural
-natural_taken bound old new text result takes is = number_taken (natural_of bound) old new text result takes is
+module _ (bound : ℕ) (old new : Lexer) where
+  pub natural_missing : Leaves old new (λ found. found.kind ≡ kind.Number) → natural bound (items_left old) ≡ Err (items_left new)
+  unfolding natural
+  natural_missing leaves = number_missing (natural_of bound) old new leaves
 
-pub integer_taken : (old new : Lexer) (text : List ℕ) (result : Option ℤ) → Takes old new (numeral text) → integer_of text ≡ result → integer (pieces_left old) ≡ option_map (λ a. (a, pieces_left new)) result
-unfolding integer
-integer_taken old new text result takes is = number_taken integer_of old new text result takes is
+  pub natural_refused : (text : List ℕ) → bound ≤ most → Takes old new (numeral (lower text)) → natural_of bound text ≡ None → natural bound (items_left old) ≡ Err (items_left old)
+  unfolding natural
+  natural_refused text small takes is = number_refused (natural_of bound) old new (lower text) takes (natural_of_lower bound text small ∙ is)
 
-pub no_natural : (bound : ℕ) (old new : Lexer) → Leaves old new (λ found. found.kind ≡ NumberKind) → natural bound (pieces_left old) ≡ None
-unfolding natural
-no_natural bound old new leaves = no_number (natural_of bound) old new leaves
+  pub natural_taken : (text : List ℕ) (n : ℕ) → bound ≤ most → Takes old new (numeral (lower text)) → natural_of bound text ≡ Some n → natural bound (items_left old) ≡ Ok (n, items_left new)
+  unfolding natural
+  natural_taken text n small takes is = number_taken (natural_of bound) old new (lower text) n takes (natural_of_lower bound text small ∙ is)
 
-pub no_integer : (old new : Lexer) → Leaves old new (λ found. found.kind ≡ NumberKind) → integer (pieces_left old) ≡ None
-unfolding integer
-no_integer old new leaves = no_number integer_of old new leaves
+  -- a short number, and whether it is below the bound
+  module _ (n : ℕ) (small : n < 2 ^ 64) (takes : Takes old new (numeral (decimal n))) where
+    pub short_refused : cond (ltb n bound) (Some n) None ≡ None → natural bound (items_left old) ≡ Err (items_left old)
+    unfolding natural
+    short_refused is = number_refused (natural_of bound) old new (decimal n) takes (natural_decimal bound n small ∙ is)
+
+    pub short_taken : (m : ℕ) → cond (ltb n bound) (Some n) None ≡ Some m → natural bound (items_left old) ≡ Ok (m, items_left new)
+    unfolding natural
+    short_taken m is = number_taken (natural_of bound) old new (decimal n) m takes (natural_decimal bound n small ∙ is)
+
+-- ---- numbers with or without a sign
+
+module _ (old new : Lexer) where
+  pub integer_missing : Leaves old new (λ found. found.kind ≡ kind.Number) → integer (items_left old) ≡ Err (items_left new)
+  unfolding integer
+  integer_missing leaves = number_missing integer_of old new leaves
+
+  pub integer_refused : (text : List ℕ) → Takes old new (numeral (lower text)) → integer_of text ≡ None → integer (items_left old) ≡ Err (items_left old)
+  unfolding integer
+  integer_refused text takes is = number_refused integer_of old new (lower text) takes (integer_of_lower text ∙ is)
+
+  pub integer_taken : (text : List ℕ) (v : ℤ) → Takes old new (numeral (lower text)) → integer_of text ≡ Some v → integer (items_left old) ≡ Ok (v, items_left new)
+  unfolding integer
+  integer_taken text v takes is = number_taken integer_of old new (lower text) v takes (integer_of_lower text ∙ is)
+
+  pub short_integer : (text : List ℕ) (v : ℤ) → Takes old new (numeral text) → integer_of text ≡ Some v → integer (items_left old) ≡ Ok (v, items_left new)
+  unfolding integer
+  short_integer text v takes is = number_taken integer_of old new text v takes is
 
 -- ---- a number, or none
 
-pub limit_none : (pieces rest : List Piece) → expect (named (codes "none")) pieces ≡ Some (tt, rest) → limit pieces ≡ Some (Absent, rest)
-unfolding limit
-limit_none pieces rest e = ap (λ (o : Outcome (Unit {0})). none_or o (made (λ n. Number n) (natural most) pieces)) e
+abbrev limit_number : Reader Limit
+limit_number = made (λ n. Number n) (natural most)
 
--- a number that is taken by its value
-pub limit_taken : (old new : Lexer) (n : ℕ) → n < 2 ^ 64 → Takes old new (numeral (decimal n)) → limit (pieces_left old) ≡ Some (Number n, pieces_left new)
-unfolding limit expect natural
-limit_taken old new n small takes =
-    let below : ltb n most ≡ true = grind (arith, nat_tests) in
-    ap (λ (pieces : List Piece). none_or (expect (named (codes "none")) pieces) (made (λ n. Number n) (natural most) pieces)) (takes_piece old new (numeral (decimal n)) takes)
-    ∙ ap (λ (found : Option ℕ). and_then (in_front found (pieces_left new)) (λ n rest. Some (Number n, rest))) (natural_decimal most n small ∙ ap (λ (b : Bool). cond b (Some n) None) below)
+limit_nothing : limit_number [] ≡ Err []
+unfolding natural number_by
+limit_nothing = refl
 
--- where the word isn't there, a number is read
-limit_else : (old tried : Lexer) → Leaves old tried (λ found. found ≡ named (codes "none")) → limit (pieces_left old) ≡ made (λ n. Number n) (natural most) (pieces_left tried)
-unfolding limit
-limit_else old tried leaves =
-    ap (λ (o : Outcome (Unit {0})). none_or o (made (λ n. Number n) (natural most) (pieces_left old))) (is_left old tried (named (codes "none")) leaves)
-    ∙ ap (λ (l : Lexer). made (λ n. Number n) (natural most) (pieces_left l)) (sym leaves.stays)
+module _ (old new : Lexer) where
+  pub limit_none : Takes old new (named (codes "none")) → limit (items_left old) ≡ Ok (Absent, items_left new)
+  unfolding limit
+  limit_none takes = first_taken (named (codes "none")) (pure Absent) limit_number old new takes
 
-pub limit_number : (old tried : Lexer) (n : ℕ) (rest : List Piece) → Leaves old tried (λ found. found ≡ named (codes "none")) → natural most (pieces_left tried) ≡ Some (n, rest) → limit (pieces_left old) ≡ Some (Number n, rest)
-limit_number old tried n rest leaves e = limit_else old tried leaves ∙ ap (λ (o : Outcome ℕ). and_then o (λ n rest. Some (Number n, rest))) e
+  module _ (leaves : Leaves old new (λ found. found ≡ named (codes "none"))) where
+    -- where the word isn't there, a number is read
+    limit_else : limit (items_left old) ≡ limit_number (items_left new)
+    unfolding limit
+    limit_else = second_taken (named (codes "none")) (pure Absent) limit_number old new limit_nothing leaves
 
-pub limit_other : (old tried : Lexer) → Leaves old tried (λ found. found ≡ named (codes "none")) → natural most (pieces_left tried) ≡ None → limit (pieces_left old) ≡ None
-limit_other old tried leaves e = limit_else old tried leaves ∙ ap (λ (o : Outcome ℕ). and_then o (λ n rest. Some (Number n, rest))) e
+    pub limit_long : (n : ℕ) (rest : List Item) → natural most (items_left new) ≡ Ok (n, rest) → limit (items_left old) ≡ Ok (Number n, rest)
+    limit_long n rest is = limit_else ∙ ap (λ (x : Outcome ℕ). and_then x (λ m more. Ok (Number m, more))) is
+
+    pub limit_refused : (rest : List Item) → natural most (items_left new) ≡ Err rest → limit (items_left old) ≡ Err rest
+    limit_refused rest is = limit_else ∙ ap (λ (x : Outcome ℕ). and_then x (λ m more. Ok (Number m, more))) is
+
+  -- a short number
+  pub limit_taken : (n : ℕ) → n < 2 ^ 64 → Takes old new (numeral (decimal n)) → limit (items_left old) ≡ Ok (Number n, items_left new)
+  unfolding limit
+  limit_taken n small takes =
+      let first : Item = record { piece = word (numeral (decimal n)); place = takes.place } in
+      let less : ltb n most ≡ true = grind (arith, nat_tests) in
+      let is : natural most (items_left old) ≡ Ok (n, items_left new) = short_taken most old new n small takes n (ap (λ (b : Bool). cond b (Some n) None) less) in
+      ap limit takes.items ∙ either_other (named (codes "none")) (pure Absent) limit_number first (items_left new) (other_words (numeral (decimal n)) (named (codes "none")) first.piece refl refl)
+      ∙ ap limit_number (sym takes.items) ∙ ap (λ (x : Outcome ℕ). and_then x (λ m rest. Ok (Number m, rest))) is

@@ -1,5 +1,5 @@
 -- Numbers: what is read is spelled so, and what is spelled so is read.
-use Rattle.std.proofs.Common.{map, ◌≡◌, ℕ, zero, suc, ◌≤◌, ◌<◌, ◌^◌, ℤ, pos, negsuc, Bool, true, false, cond, ◌&&◌, List, [], ◌∷◌, Option, Some, None, Result, Ok, refl, sym, ap, subst, ◌∙◌, arith, eqb, ltb, decimal}
+use Rattle.std.proofs.Common.{◌≡◌, ℕ, zero, suc, ◌≤◌, ◌<◌, ◌^◌, ℤ, pos, negsuc, Bool, true, false, cond, ◌&&◌, List, [], ◌∷◌, Option, Some, None, Result, Ok, refl, sym, ap, subst, ◌∙◌, arith, eqb, ltb, decimal}
 use Rattle.std.specs.Prelude.{unsigned_abs}
 use Rattle.std.specs.Option.{option_map}
 use Rattle.std.specs.Char.{to_ascii_lowercase}
@@ -11,19 +11,17 @@ use Rattle.std.proofs.lemmas.Str.Parse.{digit_from_value}
 use Rattle.std.proofs.lemmas.Fmt.{decimal_is_IsNumeral_wide, IsAscii-decimal_wide, parse-decimal_wide}
 use Rattle.std.proofs.lemmas.Bool.Decides.{nat_tests}
 use Rattle.std.proofs.lemmas.Slice.Eq.{bytes_eq-Decides}
-use Rattle.np_lex.specs.Tokens.{Lexeme, lower}
-use Rattle.np_lex.proofs.Digits.{lower_digits, lower_digits_back}
-use Rattle.np_read.specs.Pieces.{Piece, word, bad}
-use Rattle.np_lex.specs.declared.token.Kind.{Kind}
+use Rattle.np_lex.specs.Tokens.{Piece, Lexeme, lower, right}
 use Rattle.np_lex.specs.declared.token.Kind.TheVariants.{Number}
-use Rattle.np_cert.specs.Text.{most, integer_text}
-use Rattle.np_read.specs.Printers.{Printed}
-use Rattle.np_cert.specs.Text as printed
-use Rattle.np_read.specs.Readers.{and_then, next, in_front, number_by}
 use Rattle.np_read.specs.Same.{same_kind}
+use Rattle.np_lex.proofs.Digits.{lower_digits, lower_digits_back}
+use Rattle.np_cert.specs.Text.{most, integer_text}
+use Rattle.np_cert.specs.Text as printed
+use Rattle.np_read.specs.ItemReaders.{pure, refuse, chosen, says, of_number, number_by}
+use Rattle.np_read.proofs.Good.{Starts}
+use Rattle.np_read.proofs.GoodParts.{starts_number}
+use Rattle.np_read.proofs.Spelled.{Reads, Avoids, reads_number}
 use Rattle.np_cert.specs.ReadingForm.{natural_of, below_zero, integer_of, natural, integer}
-use Rattle.np_read.proofs.ReaderLaws.{Gets, Took, Reads}
-use Rattle.np_read.proofs.Same.{same_kind_true}
 
 -- what holds of the value, where there is one
 abbrev pub IfThere : {A : Type 0} → (A → Type 0) → Option A → Type 0
@@ -148,58 +146,47 @@ integer_is (negsuc n) h = ap below_zero (natural_is most (suc n) (omega arith) h
 
 -- ---- as they are read
 
-module _ {A : Type 0} (value : List ℕ → Option A) (P : A → Type 0) (text_of : A → List ℕ) where
-  -- the number as a lexeme
-  abbrev pub numbered : A → Printed
-  numbered a ls = (record { kind = Number; text = text_of a }) ∷ ls
+there : {A : Type 0} (Q : A → Type 0) (o : Option A) (a : A) → IfThere Q o → o ≡ Some a → Q a
+there Q o a h e = subst (IfThere Q) e h
 
-  -- the text says the value
-  abbrev pub Says : List ℕ → A → Type 0
-  Says text a = P a × (text ≡ text_of a)
+natural_pair : (bound : ℕ) (text : List ℕ) (n : ℕ) → natural_of bound text ≡ Some n → (n < bound) × (text ≡ decimal n)
+natural_pair bound text n e = let h = there (SaysNatural bound text) (natural_of bound text) n (natural_says bound text) e in (h.below, h.text_is)
 
-  number_at : (lexeme : Lexeme) (pieces : List Piece) → lexeme.kind ≡ Number → (o : Option A) → IfThere (Says lexeme.text) o → Gets (Took P numbered (word lexeme ∷ pieces)) (in_front o pieces)
-  number_at lexeme pieces is None h = tt
-  number_at lexeme pieces is (Some a) h = record {
-    good = h.0;
-    spelled = λ ls e.
-        ap (λ (k : Kind). word (record { kind = k; text = lexeme.text }) ∷ pieces) is ∙ ap (λ (t : List ℕ). word (record { kind = Number; text = t }) ∷ pieces) h.1
-        ∙ ap (λ (ps : List Piece). word (record { kind = Number; text = text_of a }) ∷ ps) e;
-    shorter = omega arith;
-  }
-
-  number_in : ((text : List ℕ) → IfThere (Says text) (value text)) → (lexeme : Lexeme) (pieces : List Piece) (b : Bool) → same_kind lexeme.kind Number ≡ b → Gets (Took P numbered (word lexeme ∷ pieces)) (cond b (in_front (value lexeme.text) pieces) None)
-  number_in says lexeme pieces true e = number_at lexeme pieces (same_kind_true lexeme.kind Number e) (value lexeme.text) (says lexeme.text)
-  number_in says lexeme pieces false e = tt
-
-  number_sound : ((text : List ℕ) → IfThere (Says text) (value text)) → (pieces : List Piece) → Gets (Took P numbered pieces) (and_then (next pieces) (number_by value))
-  number_sound says [] = tt
-  number_sound says (bad ∷ pieces) = tt
-  number_sound says (word lexeme ∷ pieces) = number_in says lexeme pieces (same_kind lexeme.kind Number) refl
-
-  pub reads_number : ((text : List ℕ) → IfThere (Says text) (value text)) → ((a : A) → P a → value (text_of a) ≡ Some a) → Reads P numbered (λ pieces. and_then (next pieces) (number_by value))
-  reads_number says is = record {
-    sound = number_sound says;
-    back = λ a ls h. ap (λ (o : Option A). in_front o (map word ls)) (is a h);
-  }
-
-natural_pair : (bound : ℕ) (text : List ℕ) (o : Option ℕ) → IfThere (SaysNatural bound text) o → IfThere (λ n. (n < bound) × (text ≡ decimal n)) o
-natural_pair bound text None h = tt
-natural_pair bound text (Some n) h = (h.below, h.text_is)
-
-pub reads_natural : (bound : ℕ) → bound ≤ most → Reads (λ n. n < bound) printed.natural (natural bound)
+pub reads_natural : (bound : ℕ) → bound ≤ most → Reads (λ n. n < bound) printed.natural ◌≡◌ (natural bound)
 unfolding natural
-reads_natural bound small =
-    reads_number (natural_of bound) (λ n. n < bound) decimal (λ text. natural_pair bound text (natural_of bound text) (natural_says bound text))
-    (λ n below. natural_is bound n small below)
+reads_natural bound small = reads_number (natural_of bound) (λ n. n < bound) decimal (natural_pair bound) (λ n below. natural_is bound n small below)
 
-integer_pair : (text : List ℕ) (o : Option ℤ) → IfThere (SaysInteger text) o → IfThere (λ v. (unsigned_abs v < most) × (text ≡ integer_text v)) o
-integer_pair text None h = tt
-integer_pair text (Some v) h = (h.below, h.text_is)
+pub starts_natural : (k bound : ℕ) → bound ≤ most → 0 < bound → Starts k (natural bound)
+unfolding natural
+starts_natural k bound small some = starts_number k (natural_of bound) (decimal 0) 0 (natural_is bound 0 small some)
 
-pub reads_integer : Reads (λ v. unsigned_abs v < most) printed.integer integer
+integer_pair : (text : List ℕ) (v : ℤ) → integer_of text ≡ Some v → (unsigned_abs v < most) × (text ≡ integer_text v)
+integer_pair text v e = let h = there (SaysInteger text) (integer_of text) v (integer_says text) e in (h.below, h.text_is)
+
+pub reads_integer : Reads (λ v. unsigned_abs v < most) printed.integer ◌≡◌ integer
 unfolding integer
-reads_integer =
-    reads_number integer_of (λ v. unsigned_abs v < most) integer_text (λ text. integer_pair text (integer_of text) (integer_says text)) integer_is
+reads_integer = reads_number integer_of (λ v. unsigned_abs v < most) integer_text integer_pair integer_is
+
+pub starts_integer : (k : ℕ) → Starts k integer
+unfolding integer
+starts_integer k = starts_number k integer_of (integer_text (pos 0)) (pos 0) (integer_is (pos 0) (omega arith))
+
+-- no other lexeme is a number
+no_number : {A : Type 0} (value : List ℕ → Option A) (lexeme : Lexeme) → same_kind lexeme.kind Number ≡ false → of_number value lexeme ≡ None
+no_number value lexeme other = ap (λ (b : Bool). cond b (value lexeme.text) None) other
+
+avoids_by : {A : Type 0} (value : List ℕ → Option A) (lexeme : Lexeme) → same_kind lexeme.kind Number ≡ false → Avoids lexeme (number_by value)
+unfolding number_by
+avoids_by {A = A} value lexeme other item items is =
+    ap (λ (o : Option A). chosen o pure (refuse (item ∷ items)) items) (ap (λ (p : Piece). says (of_number value) p) is ∙ no_number value lexeme other)
+
+pub natural_avoids : (lexeme : Lexeme) → same_kind lexeme.kind Number ≡ false → (bound : ℕ) → Avoids lexeme (natural bound)
+unfolding natural
+natural_avoids lexeme other bound = avoids_by (natural_of bound) lexeme other
+
+pub integer_avoids : Avoids right integer
+unfolding integer
+integer_avoids = avoids_by integer_of right refl
 
 -- ---- capital letters
 

@@ -1,14 +1,13 @@
--- What a reading function answers, beside what the pieces give.
-use Rattle.std.specs.Prelude.{Bool, true, false, Option, Result}
-use Rattle.np_read.specs.Answers as answers
+-- What reading a whole certificate answers, beside what its reader gives.
+use Rattle.std.specs.Prelude.{◌≡◌, List, Result, Ok, Err, Some}
+use Rattle.np_lex.specs.Tokens.{Item, first_place}
+use Rattle.np_read.specs.ItemReaders.{Outcome}
+use Rattle.np_cert.specs.declared.certificate.Certificate.{Certificate}
 use Rattle.np_cert.specs.declared.read.fault.CertFault.{CertFault}
 use Rattle.np_cert.specs.declared.read.fault.CertFault.TheVariants.{At, Memory}
 
--- whether memory ran out
-abbrev pub is_memory : CertFault → Bool
-is_memory (At place) = false
-is_memory Memory = true
-
--- the answer is what is there to be given, by how contracts see it, unless memory ran out
-abbrev pub Gives : {X Y : Type 0} → (X → Y) → Result X CertFault → Option Y → Type 0
-Gives view result there = answers.Gives is_memory view result there
+-- the answer is what is read, or the place at which reading stops; where memory ran out, nothing is said
+abbrev pub Answers : Result Certificate CertFault → Outcome Certificate → Type 0
+Answers (Ok certificate) read = (rest : List Item) × (read ≡ Ok (certificate, rest))
+Answers (Err (At place)) read = (rest : List Item) × (read ≡ Err rest) × (first_place rest ≡ Some place)
+Answers (Err Memory) read = Unit {0}

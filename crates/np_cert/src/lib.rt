@@ -9,6 +9,7 @@ pub mod laws;
 mod limit;
 mod print;
 mod read;
+mod thin;
 
 pub use certificate::{Certificate, Entry, Limit, Why};
 pub use limit::LIMIT_SIZE;

@@ -10,7 +10,7 @@ use Rattle.np_flat.specs.Flats.{AreBelow}
 use Rattle.np_cert.specs.declared.certificate.Limit.{Limit}
 use Rattle.np_cert.specs.declared.certificate.Limit.TheVariants.{Number, Absent}
 use Rattle.np_cert.specs.Valid.{is_small, IsFitting}
-use Rattle.np_cert.specs.Text.{IsLimit, IsWrittenEntry}
+use Rattle.np_cert.specs.Text.{IsLimit, IsWrittenProof, IsWrittenEntry}
 use Rattle.np_first.specs.declared.syntax.Domain.{Domain}
 use Rattle.np_first.specs.declared.syntax.Problem.{Problem}
 use Rattle.np_first.specs.Syntax.{IsDomain, IsProblem}
@@ -86,7 +86,7 @@ entry_written task claim e fitting = record {
   facts = All-nil (λ p. p < 2 ^ 32);
   values = All-weaker (λ v. unsigned_abs v < 2 ^ 87) (λ v. unsigned_abs v < 10 ^ 38) (λ v h. below_most (unsigned_abs v) h) (entry_of task claim e).state.values fitting.values;
   bound = limit_written (entry_of task claim e).bound fitting.bound;
-  by_expansion = refl;
+  reason = tt;
 }
   where
     below_most : (n : ℕ) → n < 2 ^ 87 → n < 10 ^ 38
@@ -96,7 +96,7 @@ entry_written task claim e fitting = record {
 pub valid_written : IsWritable
 valid_written task claim all valid = record {
   claim = limit_written claim valid.claimed.small;
-  no_proofs = refl;
+  proofs = All-nil IsWrittenProof;
   entries = All-map IsWrittenEntry (entry_of task claim) all (λ k x l. entry_written task claim (get_or all k x) (fitting k x l));
 }
   where

@@ -138,7 +138,7 @@ module _ (d : Domain) (p : Problem) (pair : IsPair d p) (nodes : ℕ) (small : n
 
 -- what a search of the counters of a pair found is true of the pair, and so is its certificate
 pub outcome_is : (d : Domain) (p : Problem) (nodes : ℕ) (found : Found) (c : Counters) (flat : Parts) (certificate : Certificate) → IsPair d p → nodes ≤ 2 ^ 24 → IsNumbered d p (c, flat)
-    → IsFound c nodes found → certificate ≡ certificate_of flat (claim_after found.end) (expanded_of found) → IsOutcomeOf d p nodes (record { end = found.end; certificate = certificate })
+    → IsFound c nodes found → certificate ≡ certificate_of flat (claim_after found.end) (expanded_of found) → IsOutcomeOf d p nodes (record { end = found.end; certificate = certificate; tree = found.tree })
 outcome_is d p nodes found c flat certificate pair small numbered is certifies = record {
   ends = subst (λ (x : Certificate). IsTrueEnd d p nodes x.entries found.end) (sym same) (true_end d p pair nodes small all few found.end ends);
   thin = subst IsThin (sym same) (thin_certificate (flat_of d p) claim all);

@@ -11,7 +11,8 @@ use crate::counters::Counters;
 use moves::{after_move, meets_all};
 use sqlite_items::Items;
 use std::alloc::{AllocError, Global};
-use tree::{Node, Tree, path_to};
+pub use tree::Tree;
+use tree::{Node, path_to};
 
 /// How a search ends.
 #[derive(Drop)]
@@ -29,8 +30,8 @@ pub enum End {
 pub struct Found {
     /// How it ends.
     pub end: End,
-    // What was reached, in the order of discovery.
-    tree: Tree,
+    /// What was reached, in the order of discovery.
+    pub tree: Tree,
     /// How many entries of the tree, from the first one on, were expanded.
     pub expanded: usize,
 }

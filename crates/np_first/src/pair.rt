@@ -18,7 +18,7 @@ mod nets;
 mod readings;
 mod text;
 
-use crate::breadth_first::{End, search};
+use crate::breadth_first::{End, Tree, search};
 use crate::counters::Counters;
 use crate::evidence::evidence;
 use crate::reading::{Refusal, read_domain, read_problem};
@@ -56,6 +56,9 @@ pub struct Outcome {
     pub end: End,
     /// The certificate of what was expanded.
     pub certificate: Certificate,
+    // What was reached. It is kept until the certificate is printed: where its many small pieces are freed before the
+    // text is allocated, the allocator first gathers them up, which takes a fifteenth of the whole time.
+    tree: Tree,
 }
 
 /// Reads the pair that the bytes of two files spell. `NotBuilt` where they spell none of the first form, `Memory` where memory runs out.
@@ -101,6 +104,7 @@ impl Pair {
         Ok(Outcome {
             end: found.end,
             certificate,
+            tree: found.tree,
         })
     }
 

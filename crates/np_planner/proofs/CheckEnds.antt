@@ -49,7 +49,7 @@ true_answer d p form c (No fault) verdict = verdict
 module _ (command : Check) (old : SeenShelf) (d : Domain) (p : Problem) (pair : HoldsPair command.inputs old d p) where
   -- an answer to the bytes of the certificate
   judged_for : (bytes : List ℕ) → IsHeld old.files command.certificate bytes → (answer : Answer) → IsJudged (flat_of d p) bytes answer → IsCheckAnswer command old old answer
-  judged_for bytes held (Refused refusal) is = (refl, record { some_pair = record { domain = d; problem = p; pair = pair }; bytes = bytes; held = held; none = is.0; reason = is.1 })
+  judged_for bytes held (Refused refusal) is = (refl, record { some_pair = record { domain = d; problem = p; pair = pair }; bytes = bytes; held = held; reason = is })
   judged_for bytes held (Checked answer) is = (
     refl,
     record {
@@ -58,6 +58,7 @@ module _ (command : Check) (old : SeenShelf) (d : Domain) (p : Problem) (pair : 
       pair = pair;
       certificate = is.certificate;
       written = record { bytes = bytes; held = held; spelled = is.spelled };
+      thin = is.thin;
       true_answer = true_answer d p pair.spelled.first_form is.certificate answer is.true_answer;
     },
   )

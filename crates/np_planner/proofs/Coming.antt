@@ -6,9 +6,10 @@ use Rattle.np_io.specs.Files.{Files, IsHeld, IsLonger}
 use Rattle.np_flat.specs.declared.parts.Parts.{Parts}
 use Rattle.np_cert.specs.declared.certificate.Limit.{Limit}
 use Rattle.np_cert.specs.declared.certificate.Certificate.{Certificate}
-use Rattle.np_cert.specs.Text.{Spells}
+use Rattle.np_cert.specs.Text.{Spells, IsThin}
 use Rattle.np_cert.specs.Valid.{IsValid}
 use Rattle.np_cert.proofs.ReadingTexts.{one_certificate}
+use Rattle.np_cert.proofs.ValidForms.{valid_thin}
 use Rattle.np_check.specs.Verdicts.{IsVerdict}
 use Rattle.np_check.proofs.OneVerdict.{fault_is_no_yes}
 use Rattle.np_first.specs.declared.syntax.Domain.{Domain}
@@ -18,7 +19,7 @@ use Rattle.np_first.specs.FlatOf.{flat_of}
 use Rattle.np_first.proofs.ReadingTexts.{one_domain, one_problem}
 use Rattle.np_planner.specs.declared.answer.File.TheVariants as file
 use Rattle.np_planner.specs.declared.answer.refusal.Refusal.{Refusal}
-use Rattle.np_planner.specs.declared.answer.refusal.Refusal.TheVariants.{TooLong}
+use Rattle.np_planner.specs.declared.answer.refusal.Refusal.TheVariants.{TooLong, CertificateSyntax, CertificateNotBuilt}
 use Rattle.np_planner.specs.declared.answer.check.CheckAnswer.TheVariants.{Yes, No}
 use Rattle.np_planner.specs.declared.answer.check.Fault.{Fault}
 use Rattle.np_planner.specs.declared.answer.check.Fault.TheVariants.{ProofFails, Repeats, Unjustified, ClaimAbove}
@@ -29,7 +30,7 @@ use Rattle.np_planner.specs.Words.{Check, Command, checking}
 use Rattle.np_planner.specs.Texts.{status_of}
 use Rattle.np_planner.specs.Shelves.{AreRead}
 use Rattle.np_planner.specs.CheckAnswers.{IsRightCheck, HoldsValid, verdict_of}
-use Rattle.np_planner.specs.RightAnswers.{HoldsNoPair, IsRight, IsRightTo}
+use Rattle.np_planner.specs.RightAnswers.{HoldsNoPair, IsCertificateReason, IsRight, IsRightTo}
 use Rattle.np_planner.specs.Output.{IsAnsweredBy}
 use Rattle.np_planner.specs.Promises.{Call, Says, IsAnswered, HadNoFault}
 
@@ -92,6 +93,13 @@ module _ (command : Check) (claim : Limit) (shelf : SeenShelf) (valid : HoldsVal
   same_certificate : (bytes : List ℕ) → IsHeld shelf.files command.certificate bytes → (c : Certificate) → Spells bytes c → c ≡ valid.certificate
   same_certificate bytes held c spelled = one_certificate bytes c valid.certificate spelled (certificate_there bytes held)
 
+  -- and nothing in them is a reason to refuse it
+  not_refused : (bytes : List ℕ) → IsHeld shelf.files command.certificate bytes → (refusal : Refusal) → IsCertificateReason bytes refusal → ⊥
+  not_refused bytes held (CertificateSyntax place) reason = reason.none valid.certificate (certificate_there bytes held)
+  not_refused bytes held CertificateNotBuilt reason =
+      reason.other_form (subst IsThin (sym (same_certificate bytes held reason.certificate reason.spelled)) (valid_thin (flat_of valid.domain valid.problem) valid.certificate valid.valid))
+  not_refused bytes held refusal reason = absurd reason
+
   -- and it has no fault
   no_fault : (fault : Fault) → IsRightCheck command (No fault) shelf → ⊥
   no_fault fault right =
@@ -118,7 +126,7 @@ module _ (call : Call) (command : Check) (claim : Limit) (valid : HoldsValid com
   yes_or_memory OutOfMemory right = inr refl
   yes_or_memory (Refused (TooLong f)) (inl is) = absurd is.1
   yes_or_memory (Refused refusal) (inl is) = absurd (pair_there command claim call.before valid refusal is.1)
-  yes_or_memory (Refused refusal) (inr is) = absurd (is.1.none valid.certificate (certificate_there command claim call.before valid is.1.bytes is.1.held))
+  yes_or_memory (Refused refusal) (inr is) = absurd (not_refused command claim call.before valid is.1.bytes is.1.held refusal is.1.reason)
   yes_or_memory answer (inl without) = absurd without
   yes_or_memory answer (inr right) = absurd right
 

@@ -7,7 +7,7 @@ use Rattle.np_model.specs.Plans.{IsUnsolvable, NoPlanBelow}
 use Rattle.np_cert.specs.declared.certificate.Limit.{Limit}
 use Rattle.np_cert.specs.declared.certificate.Limit.TheVariants.{Number, Absent}
 use Rattle.np_cert.specs.declared.certificate.Certificate.{Certificate}
-use Rattle.np_cert.specs.Text.{Spells}
+use Rattle.np_cert.specs.Text.{Spells, IsThin}
 use Rattle.np_cert.specs.Valid.{IsValid}
 use Rattle.np_check.specs.declared.verdict.Verdict.{Verdict}
 use Rattle.np_check.specs.declared.verdict.Verdict.TheVariants.{BadProof, TwiceEntry, BadEntry, BadClaim}
@@ -48,13 +48,14 @@ abbrev pub IsTrueOfCertificate : Domain → Problem → Certificate → CheckAns
 IsTrueOfCertificate d p c (Yes claim) = IsValidClaim d p c claim
 IsTrueOfCertificate d p c (No fault) = IsVerdict (flat_of d p) c (verdict_of fault)
 
--- a pair of the first form and a certificate are under the names of the words, and the answer is true of them
+-- a pair of the first form and a certificate of the thin form are under the names of the words, and the answer is true of them
 pub record IsRightCheck (command : Check) (answer : CheckAnswer) (shelf : SeenShelf) : Type 0 where
   pub domain : Domain
   pub problem : Problem
   pub pair : HoldsPair command.inputs shelf domain problem
   pub certificate : Certificate
   pub written : HoldsCertificate command.certificate shelf certificate
+  pub thin : IsThin certificate
   pub true_answer : IsTrueOfCertificate domain problem certificate answer
 
 -- the shelf tells what it holds, and under the three names are a pair of the first form and a certificate with this claim that is valid

@@ -2,15 +2,19 @@
 use Rattle.std.specs.Prelude.{◌≡◌, ℕ, ⊤, List, Option, Some, None, ◌⊎◌}
 use Rattle.np_io.specs.Seen.{SeenShelf}
 use Rattle.np_io.specs.Files.{IsHeld, IsLonger}
+use Rattle.np_lex.specs.declared.token.Place.{Place}
+use Rattle.np_lex.specs.Tokens.{items_of}
+use Rattle.np_read.specs.Faults.{IsFirstFault}
 use Rattle.np_cert.specs.declared.certificate.Certificate.{Certificate}
-use Rattle.np_cert.specs.Text.{Spells}
+use Rattle.np_cert.specs.Text.{IsWritten, Spells, IsThin}
+use Rattle.np_cert.specs.Text as certificate_text
 use Rattle.np_first.specs.declared.syntax.Domain.{Domain}
 use Rattle.np_first.specs.declared.syntax.Problem.{Problem}
 use Rattle.np_first.specs.FirstForm.{SpellNoPair}
 use Rattle.np_planner.specs.declared.answer.File.{File}
 use Rattle.np_planner.specs.declared.answer.File.TheVariants as file
 use Rattle.np_planner.specs.declared.answer.refusal.Refusal.{Refusal}
-use Rattle.np_planner.specs.declared.answer.refusal.Refusal.TheVariants.{TooLong, PairNotBuilt, CertificateNotBuilt}
+use Rattle.np_planner.specs.declared.answer.refusal.Refusal.TheVariants.{TooLong, PairNotBuilt, CertificateSyntax, CertificateNotBuilt}
 use Rattle.np_planner.specs.declared.answer.Answer.{Answer}
 use Rattle.np_planner.specs.declared.answer.Answer.TheVariants.{Usage, CannotRead, Refused, Solved, Checked, CannotWrite, OutOfMemory}
 use Rattle.np_planner.specs.declared.inputs.TheConstants.{MOST_BYTES}
@@ -59,9 +63,21 @@ IsSolveAnswer solve old new (CannotWrite file) = WasUnwritten solve file old new
 IsSolveAnswer solve old new OutOfMemory = (new ≡ old) ⊎ OnlyCertified solve old new
 IsSolveAnswer solve old new answer = ⊥
 
--- what a refusal says of the bytes of a certificate, besides that they spell none; they are never too many
+-- the bytes spell no certificate, and this is the place of their first fault
+pub record SpellNone (bytes : List ℕ) (place : Place) : Type 0 where
+  pub none : (c : Certificate) → Spells bytes c → ⊥
+  pub first_fault : IsFirstFault IsWritten certificate_text.certificate (items_of bytes) place
+
+-- the bytes spell a certificate, and it isn't of the form that is built so far
+pub record SpellUnbuilt (bytes : List ℕ) : Type 0 where
+  pub certificate : Certificate
+  pub spelled : Spells bytes certificate
+  pub other_form : IsThin certificate → ⊥
+
+-- what a refusal says of the bytes of a certificate; they are never too many
 abbrev pub IsCertificateReason : List ℕ → Refusal → Type 0
-IsCertificateReason bytes CertificateNotBuilt = ⊤
+IsCertificateReason bytes (CertificateSyntax place) = SpellNone bytes place
+IsCertificateReason bytes CertificateNotBuilt = SpellUnbuilt bytes
 IsCertificateReason bytes refusal = ⊥
 
 -- the files spell a pair of the first form
@@ -70,18 +86,17 @@ pub record HoldsSomePair (inputs : Inputs) (shelf : SeenShelf) : Type 0 where
   pub problem : Problem
   pub pair : HoldsPair inputs shelf domain problem
 
--- the files spell a pair, and the bytes under the name of the certificate, where they are told, spell no certificate
-pub record HoldsNoCertificate (check : Check) (shelf : SeenShelf) (refusal : Refusal) : Type 0 where
+-- the files spell a pair, and the bytes under the name of the certificate, where they are told, are the reason of a refusal
+pub record HoldsRefused (check : Check) (shelf : SeenShelf) (refusal : Refusal) : Type 0 where
   pub some_pair : HoldsSomePair check.inputs shelf
   pub bytes : List ℕ
   pub held : IsHeld shelf.files check.certificate bytes
-  pub none : (c : Certificate) → Spells bytes c → ⊥
   pub reason : IsCertificateReason bytes refusal
 
 -- an answer of `check` to a pair; it changes no file
 abbrev pub IsCheckAnswer : Check → SeenShelf → SeenShelf → Answer → Type 0
 IsCheckAnswer check old new (CannotRead file.Certificate) = HoldsSomePair check.inputs old × ReadFailed check.certificate old new
-IsCheckAnswer check old new (Refused refusal) = (new ≡ old) × HoldsNoCertificate check old refusal
+IsCheckAnswer check old new (Refused refusal) = (new ≡ old) × HoldsRefused check old refusal
 IsCheckAnswer check old new (Checked answer) = (new ≡ old) × IsRightCheck check answer old
 IsCheckAnswer check old new OutOfMemory = new ≡ old
 IsCheckAnswer check old new answer = ⊥

@@ -1,10 +1,11 @@
 -- The texts and the statuses of the answers.
 use Rattle.std.specs.Prelude.{ℕ, List, ◌++◌, codes, decimal}
+use Rattle.np_lex.specs.declared.token.Place.{Place}
 use Rattle.np_cert.specs.declared.certificate.Limit.TheVariants.{Number, Absent}
 use Rattle.np_planner.specs.declared.answer.File.{File}
 use Rattle.np_planner.specs.declared.answer.File.TheVariants.{Domain, Problem, Certificate, Plan}
 use Rattle.np_planner.specs.declared.answer.refusal.Refusal.{Refusal}
-use Rattle.np_planner.specs.declared.answer.refusal.Refusal.TheVariants.{TooLong, PairNotBuilt, CertificateNotBuilt}
+use Rattle.np_planner.specs.declared.answer.refusal.Refusal.TheVariants.{TooLong, PairNotBuilt, CertificateSyntax, CertificateNotBuilt}
 use Rattle.np_planner.specs.declared.answer.solve.SolveAnswer.{SolveAnswer}
 use Rattle.np_planner.specs.declared.answer.solve.SolveAnswer.TheVariants.{Optimal, Unsolvable, Spent}
 use Rattle.np_planner.specs.declared.answer.check.CheckAnswer.{CheckAnswer}
@@ -20,9 +21,14 @@ name_of Problem = codes "problem"
 name_of Certificate = codes "certificate"
 name_of Plan = codes "plan"
 
+-- the line and the column of the place are counted from 1
+abbrev pub syntax_text : Place → List ℕ
+syntax_text place = codes "Refused: certificate " ++ decimal place.line ++ codes ":" ++ decimal place.column ++ codes " syntax\n"
+
 abbrev pub refusal_text : Refusal → List ℕ
 refusal_text (TooLong file) = codes "Refused: " ++ name_of file ++ codes " too long\n"
 refusal_text PairNotBuilt = codes "Refused: not built yet\n"
+refusal_text (CertificateSyntax place) = syntax_text place
 refusal_text CertificateNotBuilt = codes "Refused: not built yet\n"
 
 abbrev pub solve_text : SolveAnswer → List ℕ

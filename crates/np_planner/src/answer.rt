@@ -12,7 +12,7 @@ pub use solve::SolveAnswer;
 use std::alloc::{AllocError, Global};
 
 /// A file that a command names.
-#[derive(Clone, Copy, Debug, PartialEq, Eq)]
+#[derive(Clone, Copy)]
 pub enum File {
     Domain,
     Problem,
@@ -21,7 +21,7 @@ pub enum File {
 }
 
 /// An answer of the planner.
-#[derive(Clone, Copy, Debug, PartialEq, Eq)]
+#[derive(Clone, Copy)]
 pub enum Answer {
     /// The words fit no command.
     Usage,

@@ -50,8 +50,9 @@ fn judge(alloc: Global, flat: &Flat, bytes: &[u8]) -> Answer
     ensures { IsJudged flat.now bytes.now result }
 {
     let certificate = match read_certificate(alloc, bytes) {
-        Ok(certificate) => certificate,
-        Err(CertFault::At(_)) => return Answer::Refused(Refusal::CertificateNotBuilt),
+        Ok(certificate) if certificate.is_thin() => certificate,
+        Ok(_) => return Answer::Refused(Refusal::CertificateNotBuilt),
+        Err(CertFault::At(place)) => return Answer::Refused(Refusal::CertificateSyntax(place)),
         Err(CertFault::Memory) => return Answer::OutOfMemory,
     };
     match check_certificate(alloc, flat, &certificate) {

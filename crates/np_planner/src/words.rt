@@ -15,14 +15,14 @@ const DEFAULT_NODES: u32 = 100_000;
 const MOST_NODES: u32 = 1 << 24;
 
 /// The names of the pair of files that a command reads first.
-#[derive(Clone, Copy, Debug)]
+#[derive(Clone, Copy)]
 pub struct Inputs<'a> {
     pub domain: &'a str,
     pub problem: &'a str,
 }
 
 /// What `solve` is told: the pair, the two files that it puts, and how many states it may expand.
-#[derive(Clone, Copy, Debug)]
+#[derive(Clone, Copy)]
 pub struct Solve<'a> {
     pub inputs: Inputs<'a>,
     pub plan: &'a str,
@@ -31,14 +31,14 @@ pub struct Solve<'a> {
 }
 
 /// What `check` is told: the pair, and the certificate.
-#[derive(Clone, Copy, Debug)]
+#[derive(Clone, Copy)]
 pub struct Check<'a> {
     pub inputs: Inputs<'a>,
     pub certificate: &'a str,
 }
 
 /// What a command is told.
-#[derive(Clone, Copy, Debug)]
+#[derive(Clone, Copy)]
 pub enum Command<'a> {
     Solve(Solve<'a>),
     Check(Check<'a>),

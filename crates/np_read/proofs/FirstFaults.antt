@@ -110,7 +110,7 @@ module _ {A : Type 0} {P : A → Type 0} {f : A → Printed} {S : A → A → Ty
 -- ---- lexemes
 
 -- the lexemes before an end
-lexemes_onto : (items : List Item) (ls : List Lexeme) (others : List Piece) → pieces_in items ≡ onto ls (end ∷ others) → lexemes_in items ≡ Some ls
+pub lexemes_onto : (items : List Item) (ls : List Lexeme) (others : List Piece) → pieces_in items ≡ onto ls (end ∷ others) → lexemes_in items ≡ Some ls
 lexemes_onto [] [] others e = absurd cc
 lexemes_onto [] (l ∷ ls) others e = absurd cc
 lexemes_onto (item ∷ items) [] others e = ap (λ (p : Piece). lexeme_before p (lexemes_in items)) (head_is item.piece end (pieces_in items) others e)
@@ -119,7 +119,7 @@ lexemes_onto (item ∷ items) (l ∷ ls) others e =
     ∙ ap (option_map (λ more. l ∷ more)) (lexemes_onto items ls others (tail_is item.piece (word l) (pieces_in items) (onto ls (end ∷ others)) e))
 
 -- items end with the end or a bad byte, and have none before
-data Closed : List Item → Type 0 where
+pub data Closed : List Item → Type 0 where
   begun : (item : Item) (items : List Item) (lexeme : Lexeme) → item.piece ≡ word lexeme → Closed items → Closed (item ∷ items)
   last_bad : (item : Item) → item.piece ≡ bad → Closed (item ∷ [])
   last : (item : Item) → item.piece ≡ end → Closed (item ∷ [])
@@ -134,7 +134,7 @@ unfolding items_within
 closed_within zero text offset = last _ refl
 closed_within (suc most) text offset = closed_then text (next_from text offset) (items_within most text) (closed_within most text)
 
-closed_of : (text : List ℕ) → Closed (items_of text)
+pub closed_of : (text : List ℕ) → Closed (items_of text)
 unfolding items_from
 closed_of text = closed_within (length text - 0) text 0
 
@@ -142,7 +142,7 @@ some_more : (lexeme : Lexeme) (others : Option (List Lexeme)) (ls : List Lexeme)
 some_more lexeme None ls e = absurd cc
 some_more lexeme (Some more) ls e = (more, refl, (let same : lexeme ∷ more ≡ ls = cc in same))
 
-closed_onto : (items : List Item) → Closed items → (ls : List Lexeme) → lexemes_in items ≡ Some ls → pieces_in items ≡ onto ls (end ∷ [])
+pub closed_onto : (items : List Item) → Closed items → (ls : List Lexeme) → lexemes_in items ≡ Some ls → pieces_in items ≡ onto ls (end ∷ [])
 closed_onto _ (begun item items lexeme is closed) ls e =
     let h = some_more lexeme (lexemes_in items) ls (ap (λ (p : Piece). lexeme_before p (lexemes_in items)) (sym is) ∙ e) in
     ap (λ (p : Piece). p ∷ pieces_in items) is ∙ ap (λ (ps : List Piece). word lexeme ∷ ps) (closed_onto items closed h.0 h.1)

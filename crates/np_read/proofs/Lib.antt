@@ -1,11 +1,15 @@
 pub mod Answers
+pub mod EachRows
 pub mod FirstFaults
 pub mod Good
 pub mod GoodParts
 pub mod ItemChoices
 pub mod ItemLexing
 pub mod Lexing
+pub mod Marked
 pub mod Pieces
+pub mod PlacedLexing
+pub mod PlacedParts
 pub mod Printed
 pub mod ReaderLaws
 pub mod Same

@@ -3,7 +3,11 @@ pub mod Faults
 pub mod ItemAnswers
 pub mod ItemReaders
 pub mod Lexemes
+pub mod Marks
 pub mod Pieces
+pub mod PlacedReaders
 pub mod Printers
 pub mod Readers
 pub mod Same
+pub mod Takes
+pub mod Tries

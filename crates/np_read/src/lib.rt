@@ -5,7 +5,9 @@
 mod at_end;
 mod fault;
 mod steps;
+mod tokens;
 
 pub use at_end::is_at_end;
 pub use fault::ReadFault;
 pub use steps::{ends, left, name, numeral, open, right};
+pub use tokens::{Found, keyword, operator, take_kind, take_operator, take_token, token};

@@ -1,7 +1,6 @@
 //! Answers of `check`, worked by hand.
 use crate::trial::{NONE_BELOW_THREE, RISE, SINK, STEPS, THREE, expect_check, shelf};
-use std::alloc::{AllocError, Global};
-use std::test::Fail;
+use std::process::Abort;
 
 const NOT_BUILT: &str = "Refused: not built yet\n";
 
@@ -88,27 +87,52 @@ const ROWS: &[(&str, &str, u8)] = &[
         ABOVE,
         6,
     ),
+    ("(certificate 3", "Refused: certificate 1:14 syntax\n", 3),
     (
-        "(certificate 1 (claim 01) (proofs) (entries))",
-        NOT_BUILT,
+        "(certificate 1 (claim 01)",
+        "Refused: certificate 1:23 syntax\n",
         3,
     ),
-    ("(certificate 1 (claim 0) (proofs) (entries)", NOT_BUILT, 3),
+    (
+        "(certificate 1 (claim 5)",
+        "Refused: certificate 1:25 syntax\n",
+        3,
+    ),
+    (
+        "(certificate 1 (claim 0) (proofs) (entries)",
+        "Refused: certificate 1:44 syntax\n",
+        3,
+    ),
     (
         "(certificate 1 (claim 0) (proofs) (entries)) .",
-        NOT_BUILT,
+        "Refused: certificate 1:46 syntax\n",
         3,
     ),
     (
         "(certificate 1 (claim 0) (proofs) (entries)))",
-        NOT_BUILT,
+        "Refused: certificate 1:45 syntax\n",
         3,
     ),
     (
         "(certificate 1 (claim 100000000000000000000000000000000000000) (proofs) (entries))",
-        NOT_BUILT,
+        "Refused: certificate 1:23 syntax\n",
         3,
     ),
+    (
+        "(certificate 1 (claim 3) (proofs) (entries
+(entry (facts) (values 0) 3 expanded)
+(entry (facts) (values 1) 2 expanded)
+(entry (facts) (values 2) 1 expanded))",
+        "Refused: certificate 4:39 syntax\n",
+        3,
+    ),
+    (
+        "(certificate 1 (claim 0)
+(proofs (proof 1 (1 cut))) (entries))",
+        "Refused: certificate 2:24 syntax\n",
+        3,
+    ),
+    ("", "Refused: certificate 1:1 syntax\n", 3),
     (
         "(certificate 1 (claim 0) (proofs (proof 1 (1 demand 0))) (entries))",
         NOT_BUILT,
@@ -119,17 +143,32 @@ const ROWS: &[(&str, &str, u8)] = &[
         NOT_BUILT,
         3,
     ),
-    ("", NOT_BUILT, 3),
+    (
+        "(certificate 1 (claim 9) (proofs) (entries (entry (facts) (values 0) 0 (proof 0))))",
+        NOT_BUILT,
+        3,
+    ),
 ];
 
+/// Checks a certificate for a pair.
+fn expect_verdict(
+    rt: &(impl Abort + AllocGlobal),
+    domain: &str,
+    problem: &str,
+    certificate: &[u8],
+    answer: &str,
+    status: u8,
+) {
+    let mut shelf = shelf(rt, domain.as_bytes(), problem.as_bytes());
+    shelf.set("cert", certificate).expect(rt, "memory");
+    expect_check(rt, &mut shelf, answer, status);
+}
+
 #[test]
-fn check_answers(rt: HostRuntime) -> Result<(), Fail> {
+fn check_answers(rt: HostRuntime) {
     for (certificate, answer, status) in ROWS {
-        let mut shelf = shelf(rt.alloc(), STEPS.as_bytes(), THREE.as_bytes())?;
-        shelf.set("cert", certificate.as_bytes())?;
-        expect_check(&rt, &mut shelf, answer, *status)?;
+        expect_verdict(&rt, STEPS, THREE, certificate.as_bytes(), answer, *status);
     }
-    Ok(())
 }
 
 /// The values of an entry come in the order in which the tests first read the functions: b, and then a. The action's two
@@ -178,28 +217,31 @@ const OTHERS: &[(&str, &str, &str, &str, u8)] = &[
 ];
 
 #[test]
-fn check_answers_for_other_pairs(rt: HostRuntime) -> Result<(), Fail> {
+fn check_answers_for_other_pairs(rt: HostRuntime) {
     for (domain, problem, certificate, answer, status) in OTHERS {
-        let mut shelf = shelf(rt.alloc(), domain.as_bytes(), problem.as_bytes())?;
-        shelf.set("cert", certificate.as_bytes())?;
-        expect_check(&rt, &mut shelf, answer, *status)?;
+        expect_verdict(
+            &rt,
+            domain,
+            problem,
+            certificate.as_bytes(),
+            answer,
+            *status,
+        );
     }
-    Ok(())
 }
 
 /// A comment of more bytes than a domain may have, and after it the certificate.
-fn long_certificate(alloc: Global) -> Result<Vec<u8>, AllocError> {
-    let mut text = vec![in alloc; b';'; 16_777_216]?;
-    text.push(b'\n')?;
-    text.extend_from_slice(NONE_BELOW_THREE.as_bytes())?;
-    Ok(text)
+fn long_certificate(rt: &(impl Abort + AllocGlobal)) -> Vec<u8> {
+    let mut text = vec![in rt.alloc(); b';'; 16_777_216].expect(rt, "memory");
+    text.push(b'\n').expect(rt, "memory");
+    text.extend_from_slice(NONE_BELOW_THREE.as_bytes())
+        .expect(rt, "memory");
+    text
 }
 
 #[test]
-fn a_certificate_may_be_long(rt: HostRuntime) -> Result<(), Fail> {
-    let mut shelf = shelf(rt.alloc(), STEPS.as_bytes(), THREE.as_bytes())?;
-    let certificate = long_certificate(rt.alloc())?;
-    shelf.set("cert", certificate.as_slice())?;
-    expect_check(&rt, &mut shelf, "Yes: no plan costs less than 3\n", 0)?;
-    Ok(())
+fn a_certificate_may_be_long(rt: HostRuntime) {
+    let certificate = long_certificate(&rt);
+    let yes = "Yes: no plan costs less than 3\n";
+    expect_verdict(&rt, STEPS, THREE, certificate.as_slice(), yes, 0);
 }

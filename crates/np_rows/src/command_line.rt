@@ -1,10 +1,10 @@
 //! The program, as it answers its words, over a shelf and a sink in memory.
-use crate::trial::{STEPS, THREE, shelf};
+use crate::trial::steps_shelf;
 use np_io::MemorySink;
 use np_planner::program;
 use std::env::FillError;
+use std::process::Abort;
 use std::rt::Env;
-use std::test::Fail;
 
 const USAGE: &str =
     "usage: solve DOMAIN PROBLEM PLAN CERT [NODES]\n       check DOMAIN PROBLEM CERT\n";
@@ -60,14 +60,17 @@ const ROWS: &[(&[&[u8]], &str, u8)] = &[
     (&[], USAGE, 2),
 ];
 
+/// Runs the program on these words over the first example, and compares its status and what it pushed.
+fn expect_program(rt: &(impl Abort + AllocGlobal), words: &[&[u8]], answer: &str, status: u8) {
+    let mut shelf = steps_shelf(rt);
+    let mut sink = MemorySink::new(rt.alloc());
+    let given = program(rt.alloc(), &Words { words }, &mut shelf, &mut sink);
+    assert!(rt; sink.bytes() == answer.as_bytes() && given == status);
+}
+
 #[test]
-fn words_are_answered(rt: HostRuntime) -> Result<(), Fail> {
+fn words_are_answered(rt: HostRuntime) {
     for (words, answer, status) in ROWS {
-        let mut shelf = shelf(rt.alloc(), STEPS.as_bytes(), THREE.as_bytes())?;
-        let mut sink = MemorySink::new(rt.alloc());
-        let given = program(rt.alloc(), &Words { words }, &mut shelf, &mut sink);
-        assert_eq!(rt; sink.bytes(), answer.as_bytes());
-        assert_eq!(rt; given, *status);
+        expect_program(&rt, words, answer, *status);
     }
-    Ok(())
 }

@@ -1,9 +1,10 @@
 //! Faulty words, and faults of the shelf and the sink.
 use crate::trial::{
-    NONE_BELOW_THREE, STEPS, THREE, expect, expect_check, expect_file, expect_solve, shelf,
+    NONE_BELOW_THREE, STEPS, THREE, expect, expect_check, expect_cut_answer, expect_file,
+    expect_solve, shelf, steps_shelf,
 };
 use np_io::{MemoryShelf, MemorySink};
-use std::test::Fail;
+use std::process::Abort;
 
 const USAGE: &str =
     "usage: solve DOMAIN PROBLEM PLAN CERT [NODES]\n       check DOMAIN PROBLEM CERT\n";
@@ -31,123 +32,105 @@ const FAULTY: &[&[&str]] = &[
     &["solve", "d", "p", "plan", "p"],
 ];
 
+/// Words that fit no command are told, and nothing is read or written.
+fn expect_usage(rt: &(impl Abort + AllocGlobal), texts: &[&str]) {
+    let mut shelf = steps_shelf(rt);
+    let mut sink = MemorySink::new(rt.alloc());
+    expect(rt, texts, &mut shelf, &mut sink, USAGE, 2);
+    assert!(rt; shelf.calls() == 0, "{texts:?}");
+}
+
 #[test]
-fn faulty_words_are_told(rt: HostRuntime) -> Result<(), Fail> {
+fn faulty_words_are_told(rt: HostRuntime) {
     for texts in FAULTY {
-        let mut shelf = shelf(rt.alloc(), STEPS.as_bytes(), THREE.as_bytes())?;
-        let mut sink = MemorySink::new(rt.alloc());
-        expect(&rt, texts, &mut shelf, &mut sink, USAGE, 2)?;
-        assert_eq!(rt; shelf.calls(), 0, "{texts:?}");
+        expect_usage(&rt, texts);
     }
-    Ok(())
 }
 
 #[test]
-fn faults_are_told(rt: HostRuntime) -> Result<(), Fail> {
-    let mut empty = MemoryShelf::new(rt.alloc());
-    let mut sink = MemorySink::new(rt.alloc());
-    expect_solve(
-        &rt,
-        "",
-        &mut empty,
-        &mut sink,
-        "Refused: cannot read domain\n",
-        4,
-    )?;
-    empty.set("d", b"(")?;
-    let mut sink = MemorySink::new(rt.alloc());
-    expect_solve(
-        &rt,
-        "",
-        &mut empty,
-        &mut sink,
-        "Refused: cannot read problem\n",
-        4,
-    )?;
-    Ok(())
+fn faults_are_told(rt: HostRuntime) {
+    let mut shelf = MemoryShelf::new(rt.alloc());
+    expect_solve(&rt, &mut shelf, "Refused: cannot read domain\n", 4);
+    shelf.set("d", b"(").expect(&rt, "memory");
+    expect_solve(&rt, &mut shelf, "Refused: cannot read problem\n", 4);
+}
+
+/// The shelf of the first example, whose call of this number fails and leaves so many bytes.
+fn failing(rt: &(impl Abort + AllocGlobal), call: u64, kept: u64) -> MemoryShelf {
+    let mut shelf = steps_shelf(rt);
+    shelf.fail(call, kept).expect(rt, "memory");
+    shelf
+}
+
+/// Compares what is under the names of the certificate and the plan, and how often the shelf was called.
+fn expect_left(
+    rt: &impl Abort,
+    shelf: &MemoryShelf,
+    certificate: &str,
+    plan: Option<&str>,
+    calls: u64,
+) {
+    expect_file(rt, shelf, "cert", Some(certificate));
+    expect_file(rt, shelf, "plan", plan);
+    assert!(rt; shelf.calls() == calls);
 }
 
 #[test]
-fn cut_writes_are_told(rt: HostRuntime) -> Result<(), Fail> {
-    let mut failing = shelf(rt.alloc(), STEPS.as_bytes(), THREE.as_bytes())?;
-    failing.fail(2, 5)?;
-    let mut sink = MemorySink::new(rt.alloc());
-    expect_solve(
-        &rt,
-        "",
-        &mut failing,
-        &mut sink,
-        "Refused: cannot write certificate\n",
-        5,
-    )?;
-    expect_file(&rt, &failing, "cert", Some("(cert"));
-    expect_file(&rt, &failing, "plan", None);
-    assert_eq!(rt; (failing.calls(), sink.calls()), (3, 1));
-
-    let mut failing = shelf(rt.alloc(), STEPS.as_bytes(), THREE.as_bytes())?;
-    failing.fail(3, 4)?;
-    let mut sink = MemorySink::new(rt.alloc());
-    expect_solve(
-        &rt,
-        "",
-        &mut failing,
-        &mut sink,
-        "Refused: cannot write plan\n",
-        5,
-    )?;
-    expect_file(&rt, &failing, "cert", Some(NONE_BELOW_THREE));
-    expect_file(&rt, &failing, "plan", Some("(up)"));
-    assert_eq!(rt; (failing.calls(), sink.calls()), (4, 1));
-    Ok(())
+fn a_cut_certificate_is_told(rt: HostRuntime) {
+    let mut shelf = failing(&rt, 2, 5);
+    expect_solve(&rt, &mut shelf, "Refused: cannot write certificate\n", 5);
+    expect_left(&rt, &shelf, "(cert", None, 3);
 }
 
 #[test]
-fn cut_answers_are_told(rt: HostRuntime) -> Result<(), Fail> {
-    let mut whole = shelf(rt.alloc(), STEPS.as_bytes(), THREE.as_bytes())?;
-    let mut cut = MemorySink::new(rt.alloc());
-    cut.fail(0, 7)?;
-    expect_solve(&rt, "", &mut whole, &mut cut, "Optimal", 5)?;
-    expect_file(&rt, &whole, "plan", Some("(up)\n(up)\n(up)\n"));
-    expect_file(&rt, &whole, "cert", Some(NONE_BELOW_THREE));
-    assert_eq!(rt; (whole.calls(), cut.calls()), (4, 1));
-
-    let mut failing = shelf(rt.alloc(), STEPS.as_bytes(), THREE.as_bytes())?;
-    failing.fail(2, 5)?;
-    let mut silent = MemorySink::new(rt.alloc());
-    silent.fail(0, 0)?;
-    expect_solve(&rt, "", &mut failing, &mut silent, "", 5)?;
-    expect_file(&rt, &failing, "cert", Some("(cert"));
-    expect_file(&rt, &failing, "plan", None);
-    Ok(())
+fn a_cut_plan_is_told(rt: HostRuntime) {
+    let mut shelf = failing(&rt, 3, 4);
+    expect_solve(&rt, &mut shelf, "Refused: cannot write plan\n", 5);
+    expect_left(&rt, &shelf, NONE_BELOW_THREE, Some("(up)"), 4);
 }
 
 #[test]
-fn faults_of_check_are_told(rt: HostRuntime) -> Result<(), Fail> {
-    let mut other = shelf(rt.alloc(), STEPS.as_bytes(), b"(define)")?;
-    expect_check(&rt, &mut other, "Refused: not built yet\n", 3)?;
-    assert_eq!(rt; other.calls(), 2);
-
-    let mut without = shelf(rt.alloc(), STEPS.as_bytes(), THREE.as_bytes())?;
-    expect_check(&rt, &mut without, "Refused: cannot read certificate\n", 4)?;
-
-    let mut failing = shelf(rt.alloc(), STEPS.as_bytes(), THREE.as_bytes())?;
-    failing.set("cert", NONE_BELOW_THREE.as_bytes())?;
-    failing.fail(1, 0)?;
-    expect_check(&rt, &mut failing, "Refused: cannot read problem\n", 4)?;
-    Ok(())
+fn a_cut_answer_is_told(rt: HostRuntime) {
+    let mut shelf = steps_shelf(&rt);
+    expect_cut_answer(&rt, 7, &mut shelf, "Optimal", 5);
+    let plan = Some("(up)\n(up)\n(up)\n");
+    expect_left(&rt, &shelf, NONE_BELOW_THREE, plan, 4);
 }
 
 #[test]
-fn a_file_past_the_limit_is_too_long(rt: HostRuntime) -> Result<(), Fail> {
-    let rows = [
-        (16_777_217, "Refused: domain too long\n"),
-        (16_777_216, "Refused: not built yet\n"),
-    ];
-    for (count, answer) in rows {
-        let blanks = vec![in rt.alloc(); b' '; count]?;
-        let mut shelf = shelf(rt.alloc(), blanks.as_slice(), THREE.as_bytes())?;
-        let mut sink = MemorySink::new(rt.alloc());
-        expect_solve(&rt, "", &mut shelf, &mut sink, answer, 3)?;
-    }
-    Ok(())
+fn a_cut_answer_to_a_cut_certificate_is_told(rt: HostRuntime) {
+    let mut shelf = failing(&rt, 2, 5);
+    expect_cut_answer(&rt, 0, &mut shelf, "", 5);
+    expect_left(&rt, &shelf, "(cert", None, 3);
+}
+
+#[test]
+fn faults_of_check_are_told(rt: HostRuntime) {
+    let mut other = shelf(&rt, STEPS.as_bytes(), b"(define)");
+    expect_check(&rt, &mut other, "Refused: not built yet\n", 3);
+    assert!(rt; other.calls() == 2);
+    let mut without = steps_shelf(&rt);
+    expect_check(&rt, &mut without, "Refused: cannot read certificate\n", 4);
+}
+
+#[test]
+fn faults_of_check_at_the_problem_are_told(rt: HostRuntime) {
+    let mut shelf = failing(&rt, 1, 0);
+    shelf
+        .set("cert", NONE_BELOW_THREE.as_bytes())
+        .expect(&rt, "memory");
+    expect_check(&rt, &mut shelf, "Refused: cannot read problem\n", 4);
+}
+
+/// Solves a pair with a domain of so many blanks.
+fn expect_blanks(rt: &(impl Abort + AllocGlobal), count: usize, answer: &str) {
+    let blanks = vec![in rt.alloc(); b' '; count].expect(rt, "memory");
+    let mut shelf = shelf(rt, blanks.as_slice(), THREE.as_bytes());
+    expect_solve(rt, &mut shelf, answer, 3);
+}
+
+#[test]
+fn a_file_past_the_limit_is_too_long(rt: HostRuntime) {
+    expect_blanks(&rt, 16_777_217, "Refused: domain too long\n");
+    expect_blanks(&rt, 16_777_216, "Refused: not built yet\n");
 }

@@ -1,9 +1,6 @@
 //! Pairs that are of the first form, and pairs that are not.
 use crate::trial::{STEPS, THREE, expect_file, expect_solve, shelf};
-use np_io::MemorySink;
-use std::alloc::{AllocError, Global};
 use std::process::Abort;
-use std::test::Fail;
 
 const NOT_BUILT: &str = "Refused: not built yet\n";
 
@@ -64,62 +61,64 @@ const OTHERS: &[(&str, &str)] = &[
 
 /// `(f0) (f1) ..`, each between these texts.
 fn push_functions(
+    rt: &(impl Abort + AllocGlobal),
     text: &mut String,
-    alloc: Global,
     count: u32,
     before: &str,
     after: &str,
-) -> Result<(), AllocError> {
+) {
     for number in 0..count {
-        let item = format!(in alloc; "{before}(f{number}){after}")?;
-        text.push_str(item.as_str())?;
+        let item = format!(in rt.alloc(); "{before}(f{number}){after}").expect(rt, "memory");
+        text.push_str(item.as_str()).expect(rt, "memory");
     }
-    Ok(())
 }
 
-/// A pair with so many functions, each raised by one action and tested in the goal.
-fn wide(alloc: Global, count: u32) -> Result<(String, String), AllocError> {
-    let mut domain = String::from_str(alloc, "(define (domain wide) (:functions ")?;
-    push_functions(&mut domain, alloc, count, "", "")?;
-    domain.push_str(") (:action all :parameters () :precondition (and) :effect (and ")?;
-    push_functions(&mut domain, alloc, count, "(increase ", " 1)")?;
-    domain.push_str(")))")?;
-    let mut problem = String::from_str(alloc, "(define (problem p) (:domain wide) (:init ")?;
-    push_functions(&mut problem, alloc, count, "(= ", " 0)")?;
-    problem.push_str(") (:goal (and ")?;
-    push_functions(&mut problem, alloc, count, "(>= ", " 1)")?;
-    problem.push_str(")))")?;
-    Ok((domain, problem))
+/// A domain with so many functions, each raised by one action.
+fn wide_domain(rt: &(impl Abort + AllocGlobal), count: u32) -> String {
+    let front = "(define (domain wide) (:functions ";
+    let mut text = String::from_str(rt.alloc(), front).expect(rt, "memory");
+    push_functions(rt, &mut text, count, "", "");
+    text.push_str(") (:action all :parameters () :precondition (and) :effect (and ")
+        .expect(rt, "memory");
+    push_functions(rt, &mut text, count, "(increase ", " 1)");
+    text.push_str(")))").expect(rt, "memory");
+    text
+}
+
+/// Its problem, with each function tested in the goal.
+fn wide_problem(rt: &(impl Abort + AllocGlobal), count: u32) -> String {
+    let front = "(define (problem p) (:domain wide) (:init ";
+    let mut text = String::from_str(rt.alloc(), front).expect(rt, "memory");
+    push_functions(rt, &mut text, count, "(= ", " 0)");
+    text.push_str(") (:goal (and ").expect(rt, "memory");
+    push_functions(rt, &mut text, count, "(>= ", " 1)");
+    text.push_str(")))").expect(rt, "memory");
+    text
 }
 
 /// Solves a pair that isn't of the first form.
-fn expect_not_built(
-    rt: &(impl Abort + AllocGlobal),
-    domain: &str,
-    problem: &str,
-) -> Result<(), AllocError> {
-    let mut shelf = shelf(rt.alloc(), domain.as_bytes(), problem.as_bytes())?;
-    let mut sink = MemorySink::new(rt.alloc());
-    expect_solve(rt, "", &mut shelf, &mut sink, NOT_BUILT, 3)?;
+fn expect_not_built(rt: &(impl Abort + AllocGlobal), domain: &str, problem: &str) {
+    let mut shelf = shelf(rt, domain.as_bytes(), problem.as_bytes());
+    expect_solve(rt, &mut shelf, NOT_BUILT, 3);
     expect_file(rt, &shelf, "plan", None);
-    Ok(())
 }
 
 #[test]
-fn other_pairs_are_not_built(rt: HostRuntime) -> Result<(), Fail> {
+fn other_pairs_are_not_built(rt: HostRuntime) {
     for (domain, problem) in OTHERS {
-        expect_not_built(&rt, domain, problem)?;
+        expect_not_built(&rt, domain, problem);
     }
-    Ok(())
+}
+
+/// Solves the pair with so many functions.
+fn expect_wide(rt: &(impl Abort + AllocGlobal), count: u32, answer: &str, status: u8) {
+    let (domain, problem) = (wide_domain(rt, count), wide_problem(rt, count));
+    let mut shelf = shelf(rt, domain.as_bytes(), problem.as_bytes());
+    expect_solve(rt, &mut shelf, answer, status);
 }
 
 #[test]
-fn a_thousand_functions_are_the_limit(rt: HostRuntime) -> Result<(), Fail> {
-    for (count, answer, status) in [(1000, "Optimal 1, weak 0\n", 0), (1001, NOT_BUILT, 3)] {
-        let (domain, problem) = wide(rt.alloc(), count)?;
-        let mut shelf = shelf(rt.alloc(), domain.as_bytes(), problem.as_bytes())?;
-        let mut sink = MemorySink::new(rt.alloc());
-        expect_solve(&rt, "", &mut shelf, &mut sink, answer, status)?;
-    }
-    Ok(())
+fn a_thousand_functions_are_the_limit(rt: HostRuntime) {
+    expect_wide(&rt, 1000, "Optimal 1, weak 0\n", 0);
+    expect_wide(&rt, 1001, NOT_BUILT, 3);
 }

@@ -1,7 +1,6 @@
 //! One call of the planner over a shelf and a sink in memory.
 use np_io::{MemoryShelf, MemorySink};
 use np_planner::planner;
-use std::alloc::{AllocError, Global};
 use std::process::Abort;
 
 /// The domain of the first example: each `up` raises x by 1.
@@ -30,23 +29,29 @@ pub const RISE: &str =
     "(define (problem p) (:domain sink) (:init (= (x) 2)) (:goal (and (>= (x) 3))))";
 
 /// The words of a command.
-pub fn words(alloc: Global, texts: &[&str]) -> Result<Vec<String>, AllocError> {
-    let mut words = Vec::new(alloc);
+pub fn words(rt: &(impl Abort + AllocGlobal), texts: &[&str]) -> Vec<String> {
+    let mut words = Vec::new(rt.alloc());
     for text in texts {
-        words.push(String::from_str(alloc, text)?)?;
+        let word = String::from_str(rt.alloc(), text).expect(rt, "memory");
+        words.push(word).expect(rt, "memory");
     }
-    Ok(words)
+    words
 }
 
 /// A shelf with a domain under `d` and a problem under `p`.
-pub fn shelf(alloc: Global, domain: &[u8], problem: &[u8]) -> Result<MemoryShelf, AllocError> {
-    let mut shelf = MemoryShelf::new(alloc);
-    shelf.set("d", domain)?;
-    shelf.set("p", problem)?;
-    Ok(shelf)
+pub fn shelf(rt: &(impl Abort + AllocGlobal), domain: &[u8], problem: &[u8]) -> MemoryShelf {
+    let mut shelf = MemoryShelf::new(rt.alloc());
+    shelf.set("d", domain).expect(rt, "memory");
+    shelf.set("p", problem).expect(rt, "memory");
+    shelf
 }
 
-/// Calls the planner with these words, and compares its status and what it pushed.
+/// The shelf of the first example.
+pub fn steps_shelf(rt: &(impl Abort + AllocGlobal)) -> MemoryShelf {
+    shelf(rt, STEPS.as_bytes(), THREE.as_bytes())
+}
+
+/// Calls the planner with these words, and compares its status and what it pushed, in one call of the sink.
 pub fn expect(
     rt: &(impl Abort + AllocGlobal),
     texts: &[&str],
@@ -54,50 +59,68 @@ pub fn expect(
     sink: &mut MemorySink,
     answer: &str,
     status: u8,
-) -> Result<(), AllocError> {
-    let words = words(rt.alloc(), texts)?;
+) {
+    let words = words(rt, texts);
     let given = planner(rt.alloc(), words.as_slice(), shelf, sink);
     assert_eq!(rt; sink.bytes(), answer.as_bytes(), "{texts:?}");
-    assert_eq!(rt; given, status, "{texts:?}");
-    Ok(())
+    assert_eq!(rt; (given, sink.calls()), (status, 1), "{texts:?}");
 }
+
+/// The words that solve the pair on the shelf into `plan` and `cert`.
+const SOLVE: &[&str] = &["solve", "d", "p", "plan", "cert"];
 
 /// Solves the pair on the shelf into `plan` and `cert`, and compares its status and what it pushed.
 pub fn expect_solve(
     rt: &(impl Abort + AllocGlobal),
-    nodes: &str,
     shelf: &mut MemoryShelf,
-    sink: &mut MemorySink,
     answer: &str,
     status: u8,
-) -> Result<(), AllocError> {
+) {
+    let mut sink = MemorySink::new(rt.alloc());
+    expect(rt, SOLVE, shelf, &mut sink, answer, status);
+}
+
+/// The same with a budget, unless it is empty.
+pub fn expect_solve_within(
+    rt: &(impl Abort + AllocGlobal),
+    nodes: &str,
+    shelf: &mut MemoryShelf,
+    answer: &str,
+    status: u8,
+) {
     if nodes.is_empty() {
-        return expect(
-            rt,
-            &["solve", "d", "p", "plan", "cert"],
-            shelf,
-            sink,
-            answer,
-            status,
-        );
+        return expect_solve(rt, shelf, answer, status);
     }
-    expect(
-        rt,
-        &["solve", "d", "p", "plan", "cert", nodes],
-        shelf,
-        sink,
-        answer,
-        status,
-    )
+    let mut sink = MemorySink::new(rt.alloc());
+    let texts = ["solve", "d", "p", "plan", "cert", nodes];
+    expect(rt, &texts, shelf, &mut sink, answer, status)
+}
+
+/// The same over a sink whose first call fails after so many bytes.
+pub fn expect_cut_answer(
+    rt: &(impl Abort + AllocGlobal),
+    kept: u64,
+    shelf: &mut MemoryShelf,
+    answer: &str,
+    status: u8,
+) {
+    let mut sink = MemorySink::new(rt.alloc());
+    sink.fail(0, kept).expect(rt, "memory");
+    expect(rt, SOLVE, shelf, &mut sink, answer, status);
+}
+
+/// Whether this text is under a name, or nothing.
+fn is_under(shelf: &MemoryShelf, name: &str, want: Option<&str>) -> bool {
+    match (shelf.get(name), want) {
+        (Some(bytes), Some(text)) => bytes == text.as_bytes(),
+        (None, None) => true,
+        _ => false,
+    }
 }
 
 /// Compares what is under a name.
 pub fn expect_file(rt: &impl Abort, shelf: &MemoryShelf, name: &str, want: Option<&str>) {
-    match (shelf.get(name), want) {
-        (None, None) => {}
-        (Some(bytes), Some(text)) => assert_eq!(rt; bytes, text.as_bytes(), "{name}"),
-        _ => panic!(rt; "{name}"),
-    }
+    assert!(rt; is_under(shelf, name, want), "{name}");
 }
 
 /// Checks what is under `cert` for the pair on the shelf, and compares its status and what it pushed.
@@ -106,7 +129,7 @@ pub fn expect_check(
     shelf: &mut MemoryShelf,
     answer: &str,
     status: u8,
-) -> Result<(), AllocError> {
+) {
     let mut sink = MemorySink::new(rt.alloc());
     expect(
         rt,
@@ -115,5 +138,5 @@ pub fn expect_check(
         &mut sink,
         answer,
         status,
-    )
+    );
 }

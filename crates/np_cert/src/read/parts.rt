@@ -1,22 +1,23 @@
-//! The parts of a certificate.
+//! The claim and the entries of a certificate.
 
 ghost use Rattle.std.specs.Prelude.{◌^◌};
-ghost use Rattle.np_read.specs.Pieces.{pieces_left};
-ghost use Rattle.np_cert.specs.ReadingAnswers.{Gives};
-ghost use Rattle.np_read.specs.Readers as steps;
+ghost use Rattle.np_lex.specs.Lexers.{items_left};
+ghost use Rattle.np_read.specs.ItemAnswers.{Gives};
+ghost use Rattle.np_read.specs.ItemReaders as steps;
 ghost use Rattle.np_cert.specs.ReadingForm as form;
 
-use super::fault::CertFault;
-use super::words::{fact, integer, limit, name, open, right};
-use crate::certificate::{Entry, Limit, Why};
+use super::reasons::reason;
+use super::words::{fact, integer, limit};
+use crate::certificate::{Entry, Limit};
 use np_flat::FlatState;
 use np_lex::Lexer;
+use np_read::{ReadFault, open, right};
 use sqlite_items::Items;
 use std::alloc::Global;
 
 /// Reads facts up to a closing bracket.
-fn facts_to_right(alloc: Global, lexer: &mut Lexer<'_>) -> Result<Items<u32>, CertFault>
-    ensures { Gives (λ x. (x, pieces_left lexer.new)) result (steps.row (form.natural (2 ^ 32)) (pieces_left lexer.old)) }
+fn facts_to_right(alloc: Global, lexer: &mut Lexer<'_>) -> Result<Items<u32>, ReadFault>
+    ensures { Gives (λ x. x) (items_left lexer.new) result (steps.row (form.natural (2 ^ 32)) (items_left lexer.old)) }
 {
     let mut found = Items::new(alloc);
     'row: while !lexer.take_right() {
@@ -28,8 +29,8 @@ fn facts_to_right(alloc: Global, lexer: &mut Lexer<'_>) -> Result<Items<u32>, Ce
 
 /// Reads `(facts fact ..)`.
 #[tactic(auto, unfolding(crate::specs::ReadingForm::facts))]
-fn facts(alloc: Global, lexer: &mut Lexer<'_>) -> Result<Items<u32>, CertFault>
-    ensures { Gives (λ x. (x, pieces_left lexer.new)) result (form.facts (pieces_left lexer.old)) }
+fn facts(alloc: Global, lexer: &mut Lexer<'_>) -> Result<Items<u32>, ReadFault>
+    ensures { Gives (λ x. x) (items_left lexer.new) result (form.facts (items_left lexer.old)) }
 {
     open(lexer, b"facts")?;
     facts_to_right(alloc, lexer)
@@ -41,8 +42,8 @@ fn values_to_right(
     alloc: Global,
     lexer: &mut Lexer<'_>,
     gathered: &mut Vec<i128>,
-) -> Result<Items<i128>, CertFault>
-    ensures { Gives (λ x. (x, pieces_left lexer.new)) result (steps.row form.integer (pieces_left lexer.old)) }
+) -> Result<Items<i128>, ReadFault>
+    ensures { Gives (λ x. x) (items_left lexer.new) result (steps.row form.integer (items_left lexer.old)) }
 {
     gathered.clear();
     'row: while !lexer.take_right() {
@@ -59,34 +60,34 @@ fn values(
     alloc: Global,
     lexer: &mut Lexer<'_>,
     gathered: &mut Vec<i128>,
-) -> Result<Items<i128>, CertFault>
-    ensures { Gives (λ x. (x, pieces_left lexer.new)) result (form.values (pieces_left lexer.old)) }
+) -> Result<Items<i128>, ReadFault>
+    ensures { Gives (λ x. x) (items_left lexer.new) result (form.values (items_left lexer.old)) }
 {
     open(lexer, b"values")?;
     values_to_right(alloc, lexer, gathered)
 }
 
-/// Reads `(entry (facts fact ..) (values value ..) bound expanded)`.
+/// Reads `(entry (facts fact ..) (values value ..) bound reason)`.
 #[tactic(auto, unfolding(crate::specs::ReadingForm::entry))]
-fn entry(alloc: Global, lexer: &mut Lexer<'_>, gathered: &mut Vec<i128>) -> Result<Entry, CertFault>
-    ensures { Gives (λ x. (x, pieces_left lexer.new)) result (form.entry (pieces_left lexer.old)) }
+fn entry(alloc: Global, lexer: &mut Lexer<'_>, gathered: &mut Vec<i128>) -> Result<Entry, ReadFault>
+    ensures { Gives (λ x. x) (items_left lexer.new) result (form.entry (items_left lexer.old)) }
 {
     open(lexer, b"entry")?;
     let facts = facts(alloc, lexer)?;
     let values = values(alloc, lexer, gathered)?;
     let bound = limit(lexer)?;
-    name(lexer, b"expanded")?;
+    let why = reason(alloc, lexer)?;
     right(lexer)?;
     Ok(Entry {
         state: FlatState { facts, values },
         bound,
-        why: Why::Expanded,
+        why,
     })
 }
 
 /// Reads entries up to a closing bracket.
-fn entries_to_right(alloc: Global, lexer: &mut Lexer<'_>) -> Result<Items<Entry>, CertFault>
-    ensures { Gives (λ x. (x, pieces_left lexer.new)) result (steps.row form.entry (pieces_left lexer.old)) }
+fn entries_to_right(alloc: Global, lexer: &mut Lexer<'_>) -> Result<Items<Entry>, ReadFault>
+    ensures { Gives (λ x. x) (items_left lexer.new) result (steps.row form.entry (items_left lexer.old)) }
 {
     let mut gathered = Vec::new(alloc);
     let mut found = Items::new(alloc);
@@ -99,8 +100,8 @@ fn entries_to_right(alloc: Global, lexer: &mut Lexer<'_>) -> Result<Items<Entry>
 
 /// Reads `(entries entry ..)`.
 #[tactic(auto, unfolding(crate::specs::ReadingForm::entries))]
-pub fn entries(alloc: Global, lexer: &mut Lexer<'_>) -> Result<Items<Entry>, CertFault>
-    ensures { Gives (λ x. (x, pieces_left lexer.new)) result (form.entries (pieces_left lexer.old)) }
+pub fn entries(alloc: Global, lexer: &mut Lexer<'_>) -> Result<Items<Entry>, ReadFault>
+    ensures { Gives (λ x. x) (items_left lexer.new) result (form.entries (items_left lexer.old)) }
 {
     open(lexer, b"entries")?;
     entries_to_right(alloc, lexer)
@@ -108,20 +109,11 @@ pub fn entries(alloc: Global, lexer: &mut Lexer<'_>) -> Result<Items<Entry>, Cer
 
 /// Reads `(claim limit)`.
 #[tactic(auto, unfolding(crate::specs::ReadingForm::claim))]
-pub fn claim(lexer: &mut Lexer<'_>) -> Result<Limit, CertFault>
-    ensures { Gives (λ x. (x, pieces_left lexer.new)) result (form.claim (pieces_left lexer.old)) }
+pub fn claim(lexer: &mut Lexer<'_>) -> Result<Limit, ReadFault>
+    ensures { Gives (λ x. x) (items_left lexer.new) result (form.claim (items_left lexer.old)) }
 {
     open(lexer, b"claim")?;
     let claim = limit(lexer)?;
     right(lexer)?;
     Ok(claim)
-}
-
-/// Reads `(proofs)`.
-#[tactic(auto, unfolding(crate::specs::ReadingForm::no_proofs))]
-pub fn no_proofs(lexer: &mut Lexer<'_>) -> Result<(), CertFault>
-    ensures { Gives (λ _. (tt, pieces_left lexer.new)) result (form.no_proofs (pieces_left lexer.old)) }
-{
-    open(lexer, b"proofs")?;
-    right(lexer)
 }

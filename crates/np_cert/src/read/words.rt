@@ -1,83 +1,18 @@
-//! The words and numbers of a certificate's text.
+//! The numbers of a certificate's text.
 
-ghost use Rattle.std.specs.Prelude.{◌≡◌, ◌↔◌, ◌^◌, ◌<◌, ◌≤◌, length, IsTrue, IfSome, Some, None, nat_lt, if◌then◌else◌, decimal};
-ghost use Rattle.std.specs.Option.{option_map};
-ghost use Rattle.np_lex.specs.LongestToken.{is_name};
-ghost use Rattle.np_lex.specs.Tokens.{lower};
-ghost use Rattle.np_read.specs.Pieces.{pieces_left};
+ghost use Rattle.std.specs.Prelude.{◌≡◌, ◌↔◌, ◌^◌, ◌<◌, ◌≤◌, IsTrue, IfOk, IfSome, Some, None, nat_lt, if◌then◌else◌, decimal};
+ghost use Rattle.np_lex.specs.Lexers.{items_left};
+ghost use Rattle.np_read.specs.ItemAnswers.{Gives};
 ghost use Rattle.np_cert.specs.Text.{most};
-ghost use Rattle.np_cert.specs.ReadingAnswers.{Gives};
-ghost use Rattle.np_read.specs.Readers as steps;
-ghost use Rattle.np_lex.specs.Tokens as tokens;
 ghost use Rattle.np_cert.specs.ReadingForm as form;
 
-use super::fault::CertFault;
 use crate::certificate::Limit;
 use itoa::Buffer;
-use np_lex::{Lexer, first_decimal, is_word};
+use np_lex::{Lexer, first_decimal};
+use np_read::ReadFault;
 
-/// Every number but those of facts is below this in size.
+/// Numbers without a bound of their own are below this in size.
 const MOST: u128 = 100_000_000_000_000_000_000_000_000_000_000_000_000;
-
-/// Reads an opening bracket.
-#[inline(always)]
-fn left(lexer: &mut Lexer<'_>) -> Result<(), CertFault>
-    ensures { Gives (λ _. (tt, pieces_left lexer.new)) result (steps.expect tokens.left (pieces_left lexer.old)) }
-{
-    if !lexer.take_left() {
-        return Err(CertFault::At(lexer.place()));
-    }
-    Ok(())
-}
-
-/// Reads a closing bracket.
-#[inline(always)]
-pub fn right(lexer: &mut Lexer<'_>) -> Result<(), CertFault>
-    ensures { Gives (λ _. (tt, pieces_left lexer.new)) result (steps.expect tokens.right (pieces_left lexer.old)) }
-{
-    if !lexer.take_right() {
-        return Err(CertFault::At(lexer.place()));
-    }
-    Ok(())
-}
-
-/// Reads this name, which is of small letters, in any case.
-#[inline(always)]
-pub fn name(lexer: &mut Lexer<'_>, text: &[u8]) -> Result<(), CertFault>
-    requires name { IsTrue (is_name text.now) }
-    requires small { lower text.now ≡ text.now }
-    ensures { Gives (λ _. (tt, pieces_left lexer.new)) result (steps.expect (tokens.named text.now) (pieces_left lexer.old)) }
-{
-    if !lexer.take_name(text) {
-        return Err(CertFault::At(lexer.place()));
-    }
-    Ok(())
-}
-
-/// Reads an opening bracket, and then this name.
-#[inline(always)]
-pub fn open(lexer: &mut Lexer<'_>, text: &[u8]) -> Result<(), CertFault>
-    requires name { IsTrue (is_name text.now) }
-    requires small { lower text.now ≡ text.now }
-    ensures { Gives (λ _. (tt, pieces_left lexer.new)) result (steps.open_with (tokens.named text.now) (pieces_left lexer.old)) }
-{
-    left(lexer)?;
-    name(lexer, text)
-}
-
-/// Reads a number with this text.
-pub fn numeral(lexer: &mut Lexer<'_>, text: &[u8]) -> Result<(), CertFault>
-    ensures { Gives (λ _. (tt, pieces_left lexer.new)) result (steps.expect (tokens.numeral text.now) (pieces_left lexer.old)) }
-{
-    let before = *lexer;
-    let Some(found) = lexer.take_number() else {
-        return Err(CertFault::At(before.place()));
-    };
-    if !is_word(found, text) {
-        return Err(CertFault::At(before.place()));
-    }
-    Ok(())
-}
 
 /// Whether the text is the decimal of the number.
 fn is_decimal(text: &[u8], number: u128) -> bool
@@ -144,74 +79,113 @@ fn integer_of(text: &[u8]) -> Option<i128>
     Some(-(size as i128))
 }
 
-/// The number below the bound that comes next, which is read. None where no such number comes next; then the lexer may have
-/// passed one.
-fn next_natural(lexer: &mut Lexer<'_>, bound: u128) -> Option<u128>
+/// Reads a number below the bound that the lexer has no short way for.
+#[inline(never)]
+#[tactic(auto, using(crate::proofs::ReadingLexemes::natural_missing, crate::proofs::ReadingLexemes::natural_refused, crate::proofs::ReadingLexemes::natural_taken))]
+fn long_natural(lexer: &mut Lexer<'_>, bound: u128) -> Result<u128, ReadFault>
     requires bound { bound ≤ most }
-    ensures value { form.natural bound (pieces_left lexer.old) ≡ option_map (λ n. (n, pieces_left lexer.new)) result }
-    ensures below { IfSome result (λ n. n < bound) }
-{
-    if let Some(number) = lexer.take_natural() {
-        return below(number, bound);
-    }
-    let text = lexer.take_number()?;
-    natural_of(text, bound)
-}
-
-/// The number with or without a sign that comes next, which is read. None where no such number comes next; then the lexer
-/// may have passed one.
-fn next_integer(lexer: &mut Lexer<'_>) -> Option<i128>
-    ensures { form.integer (pieces_left lexer.old) ≡ option_map (λ n. (n, pieces_left lexer.new)) result }
-{
-    let text = lexer.take_number()?;
-    integer_of(text)
-}
-
-/// Reads the number of a fact.
-pub fn fact(lexer: &mut Lexer<'_>) -> Result<u32, CertFault>
-    ensures { Gives (λ x. (x, pieces_left lexer.new)) result (form.natural (2 ^ 32) (pieces_left lexer.old)) }
+    ensures value { Gives (λ n. n) (items_left lexer.new) result (form.natural bound (items_left lexer.old)) }
+    ensures below { IfOk result (λ n. n < bound) }
 {
     let before = *lexer;
-    match next_natural(lexer, 1 << 32) {
-        Some(number) => Ok(number as u32),
-        None => Err(CertFault::At(before.place())),
-    }
+    let Some(text) = lexer.take_number() else {
+        return Err(ReadFault::Next);
+    };
+    let Some(number) = natural_of(text, bound) else {
+        *lexer = before;
+        return Err(ReadFault::Next);
+    };
+    Ok(number)
+}
+
+/// Reads a number below the bound.
+#[inline(always)]
+#[tactic(auto, using(crate::proofs::ReadingLexemes::short_refused, crate::proofs::ReadingLexemes::short_taken))]
+fn natural_below(lexer: &mut Lexer<'_>, bound: u128) -> Result<u128, ReadFault>
+    requires bound { bound ≤ most }
+    ensures value { Gives (λ n. n) (items_left lexer.new) result (form.natural bound (items_left lexer.old)) }
+    ensures below { IfOk result (λ n. n < bound) }
+{
+    let before = *lexer;
+    let Some(short) = lexer.take_natural() else {
+        return long_natural(lexer, bound);
+    };
+    let Some(number) = below(short, bound) else {
+        *lexer = before;
+        return Err(ReadFault::Next);
+    };
+    Ok(number)
+}
+
+/// Reads the number of a fact in an entry.
+#[inline(always)]
+pub fn fact(lexer: &mut Lexer<'_>) -> Result<u32, ReadFault>
+    ensures { Gives (λ n. n) (items_left lexer.new) result (form.natural (2 ^ 32) (items_left lexer.old)) }
+{
+    let number = natural_below(lexer, 1 << 32)?;
+    Ok(number as u32)
+}
+
+/// Reads a number of a proof.
+pub fn number(lexer: &mut Lexer<'_>) -> Result<u64, ReadFault>
+    ensures { Gives (λ n. n) (items_left lexer.new) result (form.number (items_left lexer.old)) }
+{
+    let number = natural_below(lexer, 1 << 64)?;
+    Ok(number as u64)
+}
+
+/// Reads a number without a sign.
+pub fn natural(lexer: &mut Lexer<'_>) -> Result<u128, ReadFault>
+    ensures { Gives (λ n. n) (items_left lexer.new) result (form.natural most (items_left lexer.old)) }
+{
+    natural_below(lexer, MOST)
+}
+
+/// Reads a number with or without a sign that the lexer has no short way for.
+#[inline(never)]
+#[tactic(auto, using(crate::proofs::ReadingLexemes::integer_missing, crate::proofs::ReadingLexemes::integer_refused, crate::proofs::ReadingLexemes::integer_taken))]
+fn long_integer(lexer: &mut Lexer<'_>) -> Result<i128, ReadFault>
+    ensures { Gives (λ n. n) (items_left lexer.new) result (form.integer (items_left lexer.old)) }
+{
+    let before = *lexer;
+    let Some(text) = lexer.take_number() else {
+        return Err(ReadFault::Next);
+    };
+    let Some(number) = integer_of(text) else {
+        *lexer = before;
+        return Err(ReadFault::Next);
+    };
+    Ok(number)
 }
 
 /// Reads a number with or without a sign.
 #[inline(always)]
-pub fn integer(lexer: &mut Lexer<'_>) -> Result<i128, CertFault>
-    ensures { Gives (λ x. (x, pieces_left lexer.new)) result (form.integer (pieces_left lexer.old)) }
+pub fn integer(lexer: &mut Lexer<'_>) -> Result<i128, ReadFault>
+    ensures { Gives (λ n. n) (items_left lexer.new) result (form.integer (items_left lexer.old)) }
 {
-    if let Some(number) = lexer.take_natural() {
-        return Ok(i128::from(number));
-    }
-    let before = *lexer;
-    match next_integer(lexer) {
-        Some(number) => Ok(number),
-        None => Err(CertFault::At(before.place())),
+    match lexer.take_natural() {
+        Some(number) => Ok(i128::from(number)),
+        None => long_integer(lexer),
     }
 }
 
 /// Reads a number, or `none`. `limit` has tried short numbers before.
 #[inline(never)]
-fn none_or_long(lexer: &mut Lexer<'_>) -> Result<Limit, CertFault>
-    ensures { Gives (λ x. (x, pieces_left lexer.new)) result (form.limit (pieces_left lexer.old)) }
+#[tactic(auto, using(crate::proofs::ReadingLexemes::limit_none, crate::proofs::ReadingLexemes::limit_long, crate::proofs::ReadingLexemes::limit_refused))]
+fn none_or_long(lexer: &mut Lexer<'_>) -> Result<Limit, ReadFault>
+    ensures { Gives (λ x. x) (items_left lexer.new) result (form.limit (items_left lexer.old)) }
 {
     if lexer.take_name(b"none") {
         return Ok(Limit::Absent);
     }
-    let before = *lexer;
-    match next_natural(lexer, MOST) {
-        Some(number) => Ok(Limit::Number(number)),
-        None => Err(CertFault::At(before.place())),
-    }
+    let number = long_natural(lexer, MOST)?;
+    Ok(Limit::Number(number))
 }
 
 /// Reads a number, or `none`.
 #[inline(always)]
-pub fn limit(lexer: &mut Lexer<'_>) -> Result<Limit, CertFault>
-    ensures { Gives (λ x. (x, pieces_left lexer.new)) result (form.limit (pieces_left lexer.old)) }
+pub fn limit(lexer: &mut Lexer<'_>) -> Result<Limit, ReadFault>
+    ensures { Gives (λ x. x) (items_left lexer.new) result (form.limit (items_left lexer.old)) }
 {
     match lexer.take_natural() {
         Some(number) => Ok(Limit::Number(u128::from(number))),

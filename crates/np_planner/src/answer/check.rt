@@ -7,7 +7,7 @@ use np_cert::Limit;
 use std::alloc::{AllocError, Global};
 
 /// An answer of `check`.
-#[derive(Clone, Copy, Debug, PartialEq, Eq)]
+#[derive(Clone, Copy)]
 pub enum CheckAnswer {
     /// The certificate is valid: no plan costs less than its claim, or there is none.
     Yes(Limit),
@@ -16,7 +16,7 @@ pub enum CheckAnswer {
 }
 
 /// A fault of a certificate.
-#[derive(Clone, Copy, Debug, PartialEq, Eq)]
+#[derive(Clone, Copy)]
 pub enum Fault {
     /// The proof of this number fails.
     ProofFails(usize),

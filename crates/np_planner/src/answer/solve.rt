@@ -7,7 +7,7 @@ use itoa::Buffer;
 use std::alloc::{AllocError, Global};
 
 /// An answer of `solve`.
-#[derive(Clone, Copy, Debug, PartialEq, Eq)]
+#[derive(Clone, Copy)]
 pub enum SolveAnswer {
     /// The plan that was put is a cheapest one, of this cost.
     Optimal(usize),

@@ -1,25 +1,24 @@
 use Rattle.std.proofs.lemmas.Result.{err_from_is_err_and}
-use Rattle.np_read.specs.Pieces.{pieces_left}
-use Rattle.np_read.specs.Readers.{row}
+use Rattle.np_lex.specs.Lexers.{items_left}
+use Rattle.np_read.specs.ItemReaders.{row}
+use Rattle.np_read.proofs.ItemLexing.{row_goes_on, row_stops, row_done, row_shorter}
 use Rattle.np_cert.specs.ReadingForm.{entry}
-use Rattle.np_cert.proofs.ReadingForms.{reads_entry}
-use Rattle.np_cert.specs.ReadingAnswers.{is_memory}
-use Rattle.np_read.proofs.Lexing.{row_goes_on, row_refuses, row_done, row_shorter}
+use Rattle.np_cert.proofs.ReadingStarts.{starting_entry}
 use Rattle.np_cert.proofs.read.parts.entries_to_right.Goals as goal
 
 pub returns-in_err-value : goal.returns-in_err-value
 returns-in_err-value c =
     let p = err_from_is_err_and c.from_residual.result c.from_residual.ensures.1 in
     rw (p.1, p.2)
-    (row_refuses reads_entry is_memory c.in_err-value.field-0.0 c.row.found c.row.lexer c.take_right.new.self (row entry (pieces_left c.args.lexer.now)) (c.take_right.ensures.other c.row-test.true) c.in_err-value.ensures c.row.invariant)
+    (row_stops entry starting_entry c.in_err-value.field-0.0 c.row.found c.row.lexer c.take_right.new.self (items_left c.entry.new.lexer) (row entry (items_left c.args.lexer.now)) (c.take_right.ensures.other c.row-test.true) c.in_err-value.ensures c.row.invariant)
 
 pub row-smaller : goal.row-smaller
-row-smaller c = row_shorter reads_entry c.row.lexer c.take_right.new.self c.entry.new.lexer c.in_ok-value.value (c.take_right.ensures.other c.row-test.true) c.in_ok-value.ensures
+row-smaller c = row_shorter entry starting_entry c.row.lexer c.take_right.new.self c.entry.new.lexer c.in_ok-value.value (c.take_right.ensures.other c.row-test.true) c.in_ok-value.ensures
 
 pub row-preserved : goal.row-preserved
 row-preserved c =
     rw c.in_ok-push.ensures.ok
-    (row_goes_on reads_entry c.row.found c.row.lexer c.take_right.new.self c.entry.new.lexer c.in_ok-value.value (row entry (pieces_left c.args.lexer.now)) (c.take_right.ensures.other c.row-test.true) c.in_ok-value.ensures c.row.invariant)
+    (row_goes_on entry starting_entry c.row.found c.row.lexer c.take_right.new.self c.entry.new.lexer c.in_ok-value.value (row entry (items_left c.args.lexer.now)) (c.take_right.ensures.other c.row-test.true) c.in_ok-value.ensures c.row.invariant)
 
 pub returns : goal.returns
-returns c = row_done reads_entry c.row.found c.row.lexer c.take_right.new.self (row entry (pieces_left c.args.lexer.now)) (c.take_right.ensures.taken c.row-test.false) c.row.invariant
+returns c = row_done entry starting_entry c.row.found c.row.lexer c.take_right.new.self (row entry (items_left c.args.lexer.now)) (c.take_right.ensures.taken c.row-test.false) c.row.invariant

@@ -1,12 +1,12 @@
 use Rattle.std.proofs.Common.{◌≡◌, length}
-use Rattle.np_read.specs.Pieces.{pieces_left}
-use Rattle.np_read.specs.Readers.{row}
+use Rattle.np_lex.specs.Lexers.{items_left}
+use Rattle.np_read.specs.ItemReaders.{row}
 use Rattle.np_cert.specs.ReadingForm.{entry}
-use Rattle.np_read.proofs.ReaderLaws.{with_front}
+use Rattle.np_read.proofs.ItemLexing.{with_front}
 use Rattle.np_cert.proofs.read.parts.entries_to_right.Given as goal
 
 abbrev pub invariant-row : goal.invariant-row
-invariant-row l = with_front l.found (row entry (pieces_left l.lexer)) ≡ row entry (pieces_left l.fn.lexer)
+invariant-row l = with_front l.found (row entry (items_left l.lexer)) ≡ row entry (items_left l.fn.lexer)
 
 abbrev pub decreases-row : goal.decreases-row
-decreases-row l = length (pieces_left l.lexer)
+decreases-row l = length (items_left l.lexer)

@@ -1,26 +1,25 @@
-use Rattle.std.proofs.Common.{◌^◌}
 use Rattle.std.proofs.lemmas.Result.{err_from_is_err_and}
-use Rattle.np_read.specs.Pieces.{pieces_left}
-use Rattle.np_read.specs.Readers.{row}
+use Rattle.std.proofs.Common.{◌^◌}
+use Rattle.np_lex.specs.Lexers.{items_left}
+use Rattle.np_read.specs.ItemReaders.{row}
+use Rattle.np_read.proofs.ItemLexing.{row_goes_on, row_stops, row_done, row_shorter}
 use Rattle.np_cert.specs.ReadingForm.{natural}
-use Rattle.np_cert.proofs.ReadingForms.{reads_fact}
-use Rattle.np_cert.specs.ReadingAnswers.{is_memory}
-use Rattle.np_read.proofs.Lexing.{row_goes_on, row_refuses, row_done, row_shorter}
+use Rattle.np_cert.proofs.ReadingStarts.{starting_fact}
 use Rattle.np_cert.proofs.read.parts.facts_to_right.Goals as goal
 
 pub returns-in_err-value : goal.returns-in_err-value
 returns-in_err-value c =
     let p = err_from_is_err_and c.from_residual.result c.from_residual.ensures.1 in
     rw (p.1, p.2)
-    (row_refuses reads_fact is_memory c.in_err-value.field-0.0 c.row.found c.row.lexer c.take_right.new.self (row (natural (2 ^ 32)) (pieces_left c.args.lexer.now)) (c.take_right.ensures.other c.row-test.true) c.in_err-value.ensures c.row.invariant)
+    (row_stops (natural (2 ^ 32)) starting_fact c.in_err-value.field-0.0 c.row.found c.row.lexer c.take_right.new.self (items_left c.fact.new.lexer) (row (natural (2 ^ 32)) (items_left c.args.lexer.now)) (c.take_right.ensures.other c.row-test.true) c.in_err-value.ensures c.row.invariant)
 
 pub row-smaller : goal.row-smaller
-row-smaller c = row_shorter reads_fact c.row.lexer c.take_right.new.self c.fact.new.lexer c.in_ok-value.value (c.take_right.ensures.other c.row-test.true) c.in_ok-value.ensures
+row-smaller c = row_shorter (natural (2 ^ 32)) starting_fact c.row.lexer c.take_right.new.self c.fact.new.lexer c.in_ok-value.value (c.take_right.ensures.other c.row-test.true) c.in_ok-value.ensures
 
 pub row-preserved : goal.row-preserved
 row-preserved c =
     rw c.in_ok-push.ensures.ok
-    (row_goes_on reads_fact c.row.found c.row.lexer c.take_right.new.self c.fact.new.lexer c.in_ok-value.value (row (natural (2 ^ 32)) (pieces_left c.args.lexer.now)) (c.take_right.ensures.other c.row-test.true) c.in_ok-value.ensures c.row.invariant)
+    (row_goes_on (natural (2 ^ 32)) starting_fact c.row.found c.row.lexer c.take_right.new.self c.fact.new.lexer c.in_ok-value.value (row (natural (2 ^ 32)) (items_left c.args.lexer.now)) (c.take_right.ensures.other c.row-test.true) c.in_ok-value.ensures c.row.invariant)
 
 pub returns : goal.returns
-returns c = row_done reads_fact c.row.found c.row.lexer c.take_right.new.self (row (natural (2 ^ 32)) (pieces_left c.args.lexer.now)) (c.take_right.ensures.taken c.row-test.false) c.row.invariant
+returns c = row_done (natural (2 ^ 32)) starting_fact c.row.found c.row.lexer c.take_right.new.self (row (natural (2 ^ 32)) (items_left c.args.lexer.now)) (c.take_right.ensures.taken c.row-test.false) c.row.invariant

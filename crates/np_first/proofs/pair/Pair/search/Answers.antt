@@ -16,7 +16,7 @@ search-requires-clause-in_range c =
 
 pub returns : goal.returns
 returns c =
-    subst (λ (t : PairText). IsOutcomeOf t.domain t.problem c.args.nodes (record { end = c.in_ok-found.found.end; certificate = c.in_ok-certificate.certificate })) c.self.view_is
+    subst (λ (t : PairText). IsOutcomeOf t.domain t.problem c.args.nodes (record { end = c.in_ok-found.found.end; certificate = c.in_ok-certificate.certificate; tree = c.in_ok-found.found.tree })) c.self.view_is
     (outcome_is c.self.inside.domain c.self.inside.problem c.args.nodes c.in_ok-found.found c.self.inside.counters c.self.inside.flat c.in_ok-certificate.certificate
     c.self.invariant.0 c.requires.few_nodes c.self.invariant.1 c.in_ok-found.ensures
     (subst (λ (l : Limit). c.in_ok-certificate.certificate ≡ certificate_of c.self.inside.flat l (expanded_of c.in_ok-found.found)) c.claim.ensures c.in_ok-certificate.ensures))
