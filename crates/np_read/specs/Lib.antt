@@ -10,4 +10,3 @@ pub mod Printers
 pub mod Readers
 pub mod Same
 pub mod Takes
-pub mod Tries

@@ -16,6 +16,7 @@ use sqlite_items::Items;
 use std::alloc::Global;
 
 /// Reads facts up to a closing bracket.
+#[inline(always)]
 fn facts_to_right(alloc: Global, lexer: &mut Lexer<'_>) -> Result<Items<u32>, ReadFault>
     ensures { Gives (λ x. x) (items_left lexer.new) result (steps.row (form.natural (2 ^ 32)) (items_left lexer.old)) }
 {
@@ -28,6 +29,7 @@ fn facts_to_right(alloc: Global, lexer: &mut Lexer<'_>) -> Result<Items<u32>, Re
 }
 
 /// Reads `(facts fact ..)`.
+#[inline(always)]
 #[tactic(auto, unfolding(crate::specs::ReadingForm::facts))]
 fn facts(alloc: Global, lexer: &mut Lexer<'_>) -> Result<Items<u32>, ReadFault>
     ensures { Gives (λ x. x) (items_left lexer.new) result (form.facts (items_left lexer.old)) }
@@ -38,6 +40,7 @@ fn facts(alloc: Global, lexer: &mut Lexer<'_>) -> Result<Items<u32>, ReadFault>
 
 /// Reads values up to a closing bracket. They are gathered first, so that their list has its size at once. What `gathered`
 /// holds before plays no part: its memory is used again.
+#[inline(always)]
 fn values_to_right(
     alloc: Global,
     lexer: &mut Lexer<'_>,
@@ -55,6 +58,7 @@ fn values_to_right(
 }
 
 /// Reads `(values value ..)`.
+#[inline(always)]
 #[tactic(auto, unfolding(crate::specs::ReadingForm::values))]
 fn values(
     alloc: Global,
@@ -68,6 +72,7 @@ fn values(
 }
 
 /// Reads `(entry (facts fact ..) (values value ..) bound reason)`.
+#[inline(always)]
 #[tactic(auto, unfolding(crate::specs::ReadingForm::entry))]
 fn entry(alloc: Global, lexer: &mut Lexer<'_>, gathered: &mut Vec<i128>) -> Result<Entry, ReadFault>
     ensures { Gives (λ x. x) (items_left lexer.new) result (form.entry (items_left lexer.old)) }

@@ -142,7 +142,7 @@ pub fn natural(lexer: &mut Lexer<'_>) -> Result<u128, ReadFault>
 }
 
 /// Reads a number with or without a sign that the lexer has no short way for.
-#[inline(never)]
+#[inline(always)]
 #[tactic(auto, using(crate::proofs::ReadingLexemes::integer_missing, crate::proofs::ReadingLexemes::integer_refused, crate::proofs::ReadingLexemes::integer_taken))]
 fn long_integer(lexer: &mut Lexer<'_>) -> Result<i128, ReadFault>
     ensures { Gives (λ n. n) (items_left lexer.new) result (form.integer (items_left lexer.old)) }

@@ -1,0 +1,25 @@
+use Rattle.std.proofs.Common.{Some, Ok, ap, ◌∙◌}
+use Rattle.std.proofs.lemmas.Result.{err_from_is_err_and}
+use Rattle.np_lex.specs.Lexers.{items_left}
+use Rattle.np_read.specs.ItemReaders.{Outcome, and_then, expect}
+use Rattle.np_syntax.specs.DomainForm.{number_word}
+use Rattle.np_syntax.specs.TailedRows.{tail_or_none}
+use Rattle.np_syntax.specs.Text.{minus}
+use Rattle.np_syntax.proofs.TailedLexing.{tail_comes, no_tail}
+use Rattle.np_syntax.proofs.WordLexing.{made_stops}
+use Rattle.np_syntax.proofs.read.declarations.number_mark.Goals as goal
+
+pub returns-then-not-take_operator : goal.returns-then-not-take_operator
+returns-then-not-take_operator c = no_tail minus (expect number_word) c.args.lexer.now c.take_operator.new.lexer (c.take_operator.ensures.other c.if-not-take_operator.true)
+
+pub returns-in_err-name : goal.returns-in_err-name
+returns-in_err-name c =
+    let p = err_from_is_err_and c.from_residual.result c.from_residual.ensures.1 in
+    rw (p.1, p.2)
+    (made_stops (λ (u : Unit {0}). Some u) c.in_err-name.field-0.0 (items_left c.name.new.lexer) (expect number_word (items_left c.take_operator.new.lexer)) (tail_or_none minus (expect number_word) (items_left c.args.lexer.now))
+    (tail_comes minus (expect number_word) c.args.lexer.now c.take_operator.new.lexer (c.take_operator.ensures.taken c.if-not-take_operator.false)) c.in_err-name.ensures)
+
+pub returns : goal.returns
+returns c =
+    tail_comes minus (expect number_word) c.args.lexer.now c.take_operator.new.lexer (c.take_operator.ensures.taken c.if-not-take_operator.false)
+    ∙ ap (λ (x : Outcome (Unit {0})). and_then x (λ w last. Ok (Some w, last))) c.in_ok-name.ensures
