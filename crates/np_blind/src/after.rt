@@ -12,17 +12,6 @@ use np_flat::FlatStep;
 use np_state::{BitRow, State};
 use std::alloc::{AllocError, Global};
 
-/// The same bits.
-fn copy_bits(alloc: Global, bits: &BitRow) -> Result<BitRow, AllocError>
-    ensures { IfOk result (λ copy. copy ≡ bits.now) }
-{
-    let mut copy = BitRow::new(alloc, bits.len())?;
-    for place in 0..bits.len() {
-        copy.set(place, bits.get(place));
-    }
-    Ok(copy)
-}
-
 /// Changes the bits at these places, and no others.
 pub(crate) fn set_all(bits: &mut BitRow, places: &[u32], on: bool)
     requires { All (λ p. p < length bits.old) places.now }
@@ -39,7 +28,7 @@ fn facts_after(alloc: Global, step: &FlatStep, facts: &BitRow) -> Result<BitRow,
     requires deletes { All (λ p. p < length facts.now) step.now.deletes }
     ensures { IfOk result (AreFactsAfter step.now facts.now) }
 {
-    let mut after = copy_bits(alloc, facts)?;
+    let mut after = facts.copy(alloc)?;
     set_all(&mut after, step.deletes.as_slice(), false);
     set_all(&mut after, step.adds.as_slice(), true);
     Ok(after)

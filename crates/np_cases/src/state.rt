@@ -46,6 +46,17 @@ fn reads_back(row: &BitRow) -> bool {
     right
 }
 
+/// Whether a copy of a long row and of a short one is equal to it, and stays when the row changes.
+fn copies(rt: &(impl Abort + AllocGlobal)) -> bool {
+    let long = long_row(rt);
+    let mut short = BitRow::new(rt.alloc(), 64).expect(rt, "memory");
+    let long_copy = long.copy(rt.alloc()).expect(rt, "memory");
+    let short_copy = short.copy(rt.alloc()).expect(rt, "memory");
+    let equal = long_copy == long && short_copy == short && long_copy != short_copy;
+    short.set(63, true);
+    equal && reads_back(&long_copy) && short_copy != short && !short_copy.get(63)
+}
+
 /// Whether 1,000 distinct states have the numbers 0 to 999, and are new or not.
 fn numbers(rt: &(impl Abort + AllocGlobal), store: &mut StateStore<i128>, is_new: bool) -> bool {
     let mut right = true;
@@ -100,6 +111,7 @@ fn tells_apart<C: Cell>(rt: &(impl Abort + AllocGlobal), a: &C, other: &C) -> bo
 #[test]
 fn states_are_kept_once(rt: HostRuntime) {
     assert!(rt; reads_back(&long_row(&rt)) && numbers_twice(&rt));
+    assert!(rt; copies(&rt));
     assert!(rt; tells_apart(&rt, &7i128, &-7i128));
 }
 

@@ -1,3 +1,4 @@
 pub mod Distinct
 pub mod StateEquality
 pub mod Numbers
+pub mod Rows

@@ -4,9 +4,11 @@ use Rattle.std.proofs.Common.{rules, refl, ap}
 use Rattle.std.specs.Bool.{beq, Decides}
 use Rattle.std.specs.Cmp.{IsEquivalence}
 use Rattle.std.specs.Cmp.Rules.{comparing}
-use Rattle.std.specs.Cmp.Lexicographic.{pointwise, lists_equiv}
+use Rattle.std.specs.Cmp.Lexicographic.{pointwise, pointwise_decides, lists_equiv}
 use Rattle.std.specs.Hash as fed
-use Rattle.std.specs.Hash.{HashWrites, items_Alike}
+use Rattle.std.specs.Hash.{HashWrites}
+use Rattle.std.specs.List.{flat_map}
+use Rattle.np_state.specs.Words.{words_of}
 
 -- whether two rows are equal
 abbrev pub bits_eq : List Bool → List Bool → Bool
@@ -25,9 +27,9 @@ beq_laws = search (comparing, rules)
 pub bits_eq_laws : IsEquivalence bits_eq
 bits_eq_laws = lists_equiv beq_laws
 
--- what a row feeds a hasher
+-- what a row feeds a hasher: its words
 abbrev pub bits_fed : List Bool → HashWrites
-bits_fed = fed.slice fed.bool
+bits_fed bits = flat_map fed.u64 (words_of bits)
 
 pub bits_fed_alike : (xs ys : List Bool) → bits_eq xs ys ≡ true → bits_fed xs ≡ bits_fed ys
-bits_fed_alike = (items_Alike {F = fed.bool} (record { fed = λ a b e. ap fed.bool ((beq_Decides a b).0 e) })).fed
+bits_fed_alike xs ys e = ap bits_fed ((pointwise_decides beq_Decides xs ys).0 e)

@@ -5,6 +5,7 @@ mod bits;
 mod cell;
 mod state;
 mod store;
+mod words;
 
 pub use bits::BitRow;
 pub use cell::Cell;
