@@ -28,12 +28,12 @@ def build():
         sys.exit(f"{sys.argv[0]}: the program could not be built")
 
 
-def run(words, folder):
-    """Runs the program itself in the folder."""
+def run(words, folder, program=PROGRAM):
+    """Runs the program itself, or another one, in the folder."""
     with tempfile.TemporaryFile() as out, tempfile.NamedTemporaryFile("r") as peak:
         timer = [TIMER, "-o", peak.name, "-f", "%M"] if os.path.exists(TIMER) else []
         start = time.monotonic()
-        child = subprocess.Popen([*timer, PROGRAM, *words], cwd=folder, stdout=out)
+        child = subprocess.Popen([*timer, program, *words], cwd=folder, stdout=out)
         _, ended, used = os.wait4(child.pid, 0)
         seconds = time.monotonic() - start
         child.returncode = os.waitstatus_to_exitcode(ended)

@@ -1,12 +1,9 @@
-//! The public calls of the crates below the planner, tried at values that were worked by hand. There is nothing here but tests.
+//! The public calls of the crates below the planner that speak of no text, tried at values that were worked by hand. There is
+//! nothing here but tests.
 #![tactic(auto)]
 
 #[cfg(test)]
 mod blind;
-#[cfg(test)]
-mod cert_printing;
-#[cfg(test)]
-mod cert_reading;
 #[cfg(test)]
 mod check;
 #[cfg(test)]
@@ -16,11 +13,7 @@ mod frac;
 #[cfg(test)]
 mod io;
 #[cfg(test)]
-mod lex;
-#[cfg(test)]
 mod model;
-#[cfg(test)]
-mod read;
 #[cfg(test)]
 mod search;
 #[cfg(test)]

@@ -22,6 +22,7 @@ pub mod ExprStarts
 pub mod ExprTexts
 pub mod Givens
 pub mod NumberLexing
+pub mod Numbers
 pub mod Positions
 pub mod ReadingNumbers
 pub mod ReadingWords

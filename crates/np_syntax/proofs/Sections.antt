@@ -88,22 +88,22 @@ place_avoids lexeme second avoids item items place e =
     avoids item items (said.1 ∙ ap (λ (l : Lexeme). word l) (place_is lexeme item.place said.0 place said.2).0)
 
 -- a keyword that isn't this one
-other_place : (lexeme other : Lexeme) → same_lexeme lexeme other ≡ false → (place : Place) → place_if other place lexeme ≡ None
+pub other_place : (lexeme other : Lexeme) → same_lexeme lexeme other ≡ false → (place : Place) → place_if other place lexeme ≡ None
 other_place lexeme other differ place = place_no other place lexeme (λ same. other_lexeme lexeme other (word lexeme) differ refl (ap (λ (l : Lexeme). word l) same))
 
 module _ {A C : Type 0} (lexeme : Lexeme) (make : Place → C → A) (next : Reader C) (second : Reader A) where
   abbrev pub by_place : Reader A
   by_place = either_by (place_if lexeme) (λ place. made (make place) next) second
 
-  starts_by_place : (k : ℕ) → Good k next → Starts k second → Starts k by_place
+  pub starts_by_place : (k : ℕ) → Good k next → Starts k second → Starts k by_place
   starts_by_place k good starts =
       starts_either_by k (place_if lexeme) (λ place. made (make place) next) second (λ place. good_made k (make place) next good) starts.tries nowhere lexeme nowhere (place_yes lexeme nowhere)
 
-  by_place_avoids : (other : Lexeme) → same_lexeme other lexeme ≡ false → Avoids other second → Avoids other by_place
+  pub by_place_avoids : (other : Lexeme) → same_lexeme other lexeme ≡ false → Avoids other second → Avoids other by_place
   by_place_avoids other differ avoids item items is =
       either_by_refuses (place_if lexeme) (λ place. made (make place) next) second item items (silent (place_if lexeme) item other is (other_place other lexeme differ item.place)) (avoids item items is)
 
-  by_place_nothing : Refuses by_place []
+  pub by_place_nothing : Refuses by_place []
   by_place_nothing = either_by_nothing (place_if lexeme) (λ place. made (make place) next) second
 
   module _ {Q : C → Type 0} {R : A → Type 0} {print : A → Printed} {follow_print : C → Printed} {Same : A → A → Type 0} {SameNext : C → C → Type 0} where

@@ -1,18 +1,22 @@
 -- What is said of a whole text, by what is read of it and by its first number of too many digits.
-use Rattle.std.proofs.Common.{◌≡◌, ℕ, ◌<◌, ◌≤◌, List, [], ◌∷◌, ◌++◌, Some, Ok, Err, refl, sym, ap, subst, ◌∙◌, append_assoc, arith, true≢false}
+use Rattle.std.proofs.Common.{◌≡◌, inl, inr, ℕ, ◌<◌, ◌≤◌, List, [], ◌∷◌, ◌++◌, Some, Result, Ok, Err, IfOk, IsErrOf, refl, sym, ap, subst, ◌∙◌, append_assoc, arith, true≢false}
 use Rattle.std.specs.List.{All}
 use Rattle.std.proofs.lemmas.List.{map-append}
 use Rattle.std.proofs.lemmas.List.Elements.{All-nil, All-cons, All-head, All-tail}
 use Rattle.np_lex.specs.declared.token.Place.{Place}
-use Rattle.np_lex.specs.Tokens.{Lexeme, Piece, word, end, Item, items_of}
+use Rattle.np_lex.specs.Tokens.{Lexeme, Piece, word, end, Item, items_of, first_place}
 use Rattle.np_read.specs.Lexemes.{lexemes}
 use Rattle.np_read.specs.Faults.{pieces_in, onto, IsFirstFault}
-use Rattle.np_read.specs.Marks.{Marking, Fits}
+use Rattle.np_read.specs.Marks.{Mark, Marking, Fits}
 use Rattle.np_read.specs.Printers.{Printed}
 use Rattle.np_read.specs.ItemReaders.{Outcome, Reader, and_then, at_end, whole}
+use Rattle.np_read.proofs.Good.{Good}
 use Rattle.np_read.proofs.Spelled.{Gets, Finds, Back, Reads, gets, then_at, head_is, tail_is}
 use Rattle.np_read.proofs.Marked.{Marked, Placed}
-use Rattle.np_read.proofs.FirstFaults.{whole_sound, whole_back, lexemes_onto, closed_of, closed_onto}
+use Rattle.np_read.proofs.FirstFaults.{first_fault, whole_sound, whole_back, lexemes_onto, closed_of, closed_onto}
+use Rattle.np_syntax.specs.declared.fault.ReadFault.{ReadFault}
+use Rattle.np_syntax.specs.declared.fault.ReadFault.TheVariants as fault_of
+use Rattle.np_syntax.specs.Texts.{IsSpelled, KeepsPlaces, NoneWideBefore, IsFaultFrom, IsSettled}
 use Rattle.np_syntax.specs.Wide.{is_wide_piece, IsShort, IsFirstWide, IsShortLexeme, IsSyntaxFault, IsWideFault}
 use Rattle.np_syntax.proofs.Positions.{Rising, rising_of, Cuts, before, here, later, cuts}
 
@@ -152,3 +156,84 @@ module _ {A : Type 0} {P : A → Type 0} {spelling : A → List Lexeme} (text : 
           ∙ pieces_append (first.front ++ first.number ∷ []) first.after;
     };
   }
+
+-- ---- what is answered, by how values are read
+
+abbrev failed : (A : Type 0) → ReadFault → Result A ReadFault
+failed A fault = Err fault
+
+same_fault : (A : Type 0) (x y : ReadFault) → failed A x ≡ failed A y → x ≡ y
+same_fault A x y e = cc
+
+-- no number of too many digits is before the fault
+syntax_fault : {A : Type 0} {P : A → Type 0} {spelling : A → List Lexeme} (text : List ℕ) (stop : Place) → IsFirstFault P spelling (items_of text) stop → NoneWideBefore (items_of text) stop → IsSyntaxFault P spelling (items_of text) stop
+syntax_fault text stop fault (inl short) = short_fault text stop fault short
+syntax_fault text stop fault (inr h) = later_fault text stop h.0 fault h.1 h.2
+
+module _ {A B : Type 0} {P : A → Type 0} {f : A → Printed} {marks : A → Marking} {p : Reader A} (bare : A → B) (good : (k : ℕ) → Good k p) (reads : Reads P f (λ a b. bare a ≡ bare b) p) (placed : Placed P marks p) (text : List ℕ) where
+  abbrev spelling : A → List Lexeme
+  spelling a = f a []
+
+  abbrev marks_of : A → List Mark
+  marks_of a = marks a []
+
+  abbrev Spells : A → Type 0
+  Spells = IsSpelled P spelling text
+
+  abbrev Syntax : Place → Type 0
+  Syntax = IsSyntaxFault P spelling (items_of text)
+
+  abbrev WideAt : Place → Type 0
+  WideAt = IsWideFault P spelling (items_of text)
+
+  -- where the whole text is a value
+  module _ (a : A) (rest : List Item) (read : whole p (items_of text) ≡ Ok (a, rest)) where
+    pub value_spelled : (r : Result A ReadFault) → IsSettled (items_of text) a r → IfOk r Spells
+    value_spelled (Ok b) h =
+        let sound = read_sound reads text a rest read in
+        subst Spells (sym h.0) (record { is_value = sound.0; lexemes_are = sound.1; short = short_spelled text (spelling a) sound.1 h.1 })
+    value_spelled (Err e) h = tt
+
+    pub value_placed : (r : Result A ReadFault) → IsSettled (items_of text) a r → IfOk r (KeepsPlaces marks_of text)
+    value_placed (Ok b) h =
+        let stands = read_stands placed (items_of text) a rest read in
+        subst (KeepsPlaces marks_of text) (sym h.0) (record { rest = stands.0; fits = stands.1 })
+    value_placed (Err e) h = tt
+
+    pub value_only : (r : Result A ReadFault) → IsSettled (items_of text) a r → IfOk r (λ b. (other : A) → Spells other → bare other ≡ bare b)
+    value_only (Ok b) h = λ other spells. sym (read_only reads text a other rest read spells.is_value spells.lexemes_are) ∙ ap bare (sym h.0)
+    value_only (Err e) h = tt
+
+    pub value_fault : (r : Result A ReadFault) → IsSettled (items_of text) a r → (place : Place) → IsErrOf r (fault_of.At place) → Syntax place
+    value_fault r h place e = absurd (subst (IsSettled (items_of text) a) e h)
+
+    pub value_wide : (r : Result A ReadFault) → IsSettled (items_of text) a r → (place : Place) → IsErrOf r (fault_of.NumberWide place) → WideAt place
+    value_wide r h place e =
+        let sound = read_sound reads text a rest read in
+        spelled_wide text a sound.0 sound.1 place (subst (IsSettled (items_of text) a) e h)
+
+    refused_by : (fault : ReadFault) → IsSettled (items_of text) a (Err fault) → (b : A) → Spells b → ⊥
+    refused_by (fault_of.At place) h b spells = h
+    refused_by (fault_of.NumberWide place) h b spells = wide_unspelled text (spelling b) place h spells.lexemes_are spells.short
+    refused_by fault_of.Memory h b spells = h
+
+    pub value_refused : (r : Result A ReadFault) → IsSettled (items_of text) a r → (fault : ReadFault) → IsErrOf r fault → (b : A) → Spells b → ⊥
+    value_refused r h fault e b spells = refused_by fault (subst (IsSettled (items_of text) a) e h) b spells
+
+  -- where reading stops
+  module _ (rest : List Item) (stop : Place) (read : whole p (items_of text) ≡ Err rest) (at_place : first_place rest ≡ Some stop) where
+    fault_there : IsFirstFault P spelling (items_of text) stop
+    fault_there = first_fault good reads (items_of text) rest stop read at_place
+
+    pub stop_fault : (fault : ReadFault) → IsFaultFrom (items_of text) stop fault → (place : Place) → IsErrOf (failed A fault) (fault_of.At place) → Syntax place
+    stop_fault fault h place e =
+        let from = subst (IsFaultFrom (items_of text) stop) (same_fault A fault (fault_of.At place) e) h in
+        subst Syntax (sym from.0) (syntax_fault text stop fault_there from.1)
+
+    pub stop_wide : (fault : ReadFault) → IsFaultFrom (items_of text) stop fault → (place : Place) → IsErrOf (failed A fault) (fault_of.NumberWide place) → WideAt place
+    stop_wide fault h place e =
+        let from = subst (IsFaultFrom (items_of text) stop) (same_fault A fault (fault_of.NumberWide place) e) h in
+        wide_fault text stop place fault_there from.0 from.1
+
+    pub stop_refused : (b : A) → Spells b → ⊥
+    stop_refused b spells = read_refused reads text rest read b spells.is_value spells.lexemes_are

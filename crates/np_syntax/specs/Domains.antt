@@ -1,19 +1,16 @@
 -- What a text of a domain spells, and where the places are that a domain keeps.
-use Rattle.std.specs.Prelude.{◌≡◌, ℕ, suc, Bool, true, false, List, [], All, Some}
-use Rattle.np_lex.specs.Tokens.{Lexeme, Item, items_of}
-use Rattle.np_read.specs.Lexemes.{lexemes}
-use Rattle.np_read.specs.Marks.{Mark, Fits}
+use Rattle.std.specs.Prelude.{ℕ, suc, List, []}
+use Rattle.np_lex.specs.Tokens.{Lexeme}
+use Rattle.np_read.specs.Marks.{Mark}
 use Rattle.np_syntax.specs.declared.condition.Condition.{Condition}
 use Rattle.np_syntax.specs.declared.effect.Effect.{Effect}
 use Rattle.np_syntax.specs.declared.domain.Domain.{Domain}
-use Rattle.np_syntax.specs.declared.fault.ReadFault.{ReadFault}
-use Rattle.np_syntax.specs.declared.fault.ReadFault.TheVariants as fault
 use Rattle.np_syntax.specs.ActionForm.{depth}
 use Rattle.np_syntax.specs.ConditionText.{condition, IsCondition, bare_condition}
 use Rattle.np_syntax.specs.EffectText.{effect, IsEffect, bare_effect}
 use Rattle.np_syntax.specs.SectionText.{domain_with, IsDomainWith, bare_domain_with}
 use Rattle.np_syntax.specs.Text.{spelled, marked}
-use Rattle.np_syntax.specs.Wide.{IsShortLexeme}
+use Rattle.np_syntax.specs.Texts.{IsSpelled, KeepsPlaces}
 
 -- brackets nest at most MOST_LEVELS deep, which is 256: the bracket of an action's condition or effect is the third level, so that
 -- it takes up one of 254 levels
@@ -40,18 +37,9 @@ abbrev pub bare_domain : Domain → Domain
 bare_domain = bare_domain_with bare_condition bare_effect
 
 -- the bytes spell this domain: their lexemes are its own, and no number has too many digits
-pub record Spells (bytes : List ℕ) (d : Domain) : Type 0 where
-  pub is_domain : IsDomain d
-  pub lexemes_are : lexemes bytes ≡ Some (domain_text d)
-  pub short : All IsShortLexeme (domain_text d)
+abbrev pub Spells : List ℕ → Domain → Type 0
+Spells = IsSpelled IsDomain domain_text
 
 -- each place that the domain keeps is that of its token in the bytes
-pub record IsPlaced (bytes : List ℕ) (d : Domain) : Type 0 where
-  pub rest : List Item
-  pub fits : Fits (items_of bytes) (domain_marks d) rest
-
--- whether memory ran out
-abbrev pub is_memory : ReadFault → Bool
-is_memory (fault.At place) = false
-is_memory (fault.NumberWide place) = false
-is_memory fault.Memory = true
+abbrev pub IsPlaced : List ℕ → Domain → Type 0
+IsPlaced = KeepsPlaces domain_marks

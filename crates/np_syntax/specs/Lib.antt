@@ -2,7 +2,6 @@ pub mod ActionForm
 pub mod Bare
 pub mod ConditionForm
 pub mod ConditionText
-pub mod DomainAnswers
 pub mod DomainForm
 pub mod DomainText
 pub mod Domains
@@ -10,10 +9,12 @@ pub mod EffectForm
 pub mod EffectText
 pub mod ExprForm
 pub mod ExprText
+pub mod Numbers
 pub mod ReadingForm
 pub mod SectionForm
 pub mod SectionText
 pub mod TailedRows
 pub mod Text
+pub mod Texts
 pub mod Wide
 pub mod Written

@@ -7,6 +7,7 @@ mod effect;
 mod expr;
 mod fault;
 pub mod read;
+mod value;
 mod word;
 
 pub use condition::{Condition, Op, Side};

@@ -4,9 +4,11 @@ ghost use Rattle.std.specs.Prelude.{◌≡◌, ◌<◌, nat_lt, All, IfSome, IfN
 ghost use Rattle.std.specs.List.{count_by};
 ghost use Rattle.np_lex.specs.FirstToken.{is_digit};
 ghost use Rattle.np_lex.specs.Tokens.{items_of};
+ghost use Rattle.np_syntax.specs.Texts.{IsFaultFrom, IsSettled};
 ghost use Rattle.np_syntax.specs.Wide.{IsShort, IsFirstWide};
 ghost use Rattle.np_syntax.specs.declared.read.wide.TheConstants.{MOST_DIGITS};
 
+use crate::fault::ReadFault;
 use np_lex::{Kind, Lexer, Place};
 
 /// A literal has at most so many digits.
@@ -36,4 +38,27 @@ pub fn first_wide(bytes: &[u8]) -> Option<Place>
             Err(_) => return None,
         }
     }
+}
+
+/// The value that the whole text was read as, unless a literal has too many digits.
+pub fn settled<T: Drop>(bytes: &[u8], value: T) -> Result<T, ReadFault>
+    ensures { IsSettled (items_of bytes.now) value result }
+{
+    match first_wide(bytes) {
+        Some(place) => Err(ReadFault::NumberWide(place)),
+        None => Ok(value),
+    }
+}
+
+/// The fault of a text in which reading stopped at this place: it is there, unless a literal with too many digits is before it.
+pub fn fault_from(bytes: &[u8], stop: Place) -> ReadFault
+    ensures { IsFaultFrom (items_of bytes.now) stop result }
+{
+    let Some(place) = first_wide(bytes) else {
+        return ReadFault::At(stop);
+    };
+    if place.offset < stop.offset {
+        return ReadFault::NumberWide(place);
+    }
+    ReadFault::At(stop)
 }

@@ -1,0 +1,12 @@
+pub mod Bare
+pub mod Lexing
+pub mod Lines
+pub mod LookUps
+pub mod Naming
+pub mod PlanLaws
+pub mod Printing
+pub mod Reading
+pub mod Rising
+pub mod Shortness
+pub mod ToEnd
+pub mod WholeTexts

@@ -1,0 +1,5 @@
+pub mod FactLexing
+pub mod Facts
+pub mod ProblemLaws
+pub mod SectionLexing
+pub mod Sections

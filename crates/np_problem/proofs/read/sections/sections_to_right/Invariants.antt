@@ -1,0 +1,12 @@
+use Rattle.std.proofs.Common.{◌≡◌, length}
+use Rattle.np_lex.specs.Lexers.{items_left}
+use Rattle.np_read.specs.ItemReaders.{row}
+use Rattle.np_problem.specs.ProblemForm.{section}
+use Rattle.np_read.proofs.ItemLexing.{with_front}
+use Rattle.np_problem.proofs.read.sections.sections_to_right.Given as goal
+
+abbrev pub invariant-row : goal.invariant-row
+invariant-row l = with_front l.found (row section (items_left l.lexer)) ≡ row section (items_left l.fn.lexer)
+
+abbrev pub decreases-row : goal.decreases-row
+decreases-row l = length (items_left l.lexer)
