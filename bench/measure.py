@@ -14,10 +14,10 @@ TIMER = "/usr/bin/time"
 
 
 class Run:
-    """What one run said, how it ended, how long it took, and the most memory that it held."""
+    """What one run said, how it ended, how long it took, also in processor time, and the most memory that it held."""
 
-    def __init__(self, text, status, seconds, peak_kib):
-        self.text, self.status, self.seconds, self.peak_kib = text, status, seconds, peak_kib
+    def __init__(self, text, status, seconds, processor, peak_kib):
+        self.text, self.status, self.seconds, self.processor, self.peak_kib = text, status, seconds, processor, peak_kib
 
 
 def build():
@@ -39,7 +39,7 @@ def run(words, folder, program=PROGRAM):
         child.returncode = os.waitstatus_to_exitcode(ended)
         out.seek(0)
         peak_kib = int(peak.read().split()[-1]) if timer else used.ru_maxrss
-        return Run(out.read().decode(), child.returncode, seconds, peak_kib)
+        return Run(out.read().decode(), child.returncode, seconds, used.ru_utime + used.ru_stime, peak_kib)
 
 
 def write(folder, name, text):
