@@ -5,10 +5,10 @@ use Rattle.std.proofs.lemmas.List.{length-map}
 use Rattle.np_frac.specs.Fractions.{Fraction}
 use Rattle.np_model.specs.declared.task.Step.{Step}
 use Rattle.np_model.specs.declared.task.TaskParts.{TaskParts}
-use Rattle.np_syntax.specs.declared.word.Decimal.{Decimal}
-use Rattle.np_syntax.specs.declared.word.Word.{Word}
-use Rattle.np_syntax.specs.Bare.{bare_word, bare_decimal}
-use Rattle.np_syntax.specs.Numbers.{fraction_of}
+use Rattle.np_words.specs.declared.word.Decimal.{Decimal}
+use Rattle.np_words.specs.declared.word.Word.{Word}
+use Rattle.np_words.specs.Bare.{bare_word, bare_decimal}
+use Rattle.np_words.specs.Numbers.{fraction_of}
 use Rattle.np_plan.specs.declared.plan.PlanLine.{PlanLine}
 use Rattle.np_plan.specs.declared.plan.PlanText.{PlanText}
 use Rattle.np_plan.specs.PlanText.{bare_line, bare_plan}

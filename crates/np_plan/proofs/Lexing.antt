@@ -15,8 +15,8 @@ use Rattle.np_read.proofs.Same.{same_lexeme_is}
 use Rattle.np_read.proofs.Good.{Starting}
 use Rattle.np_read.proofs.ItemLexing.{NotFirst, not_first, with_front}
 use Rattle.np_read.proofs.PlacedLexing.{refused_whole}
-use Rattle.np_syntax.specs.declared.word.Decimal.{Decimal}
-use Rattle.np_syntax.specs.ReadingForm.{number_of, number}
+use Rattle.np_words.specs.declared.word.Decimal.{Decimal}
+use Rattle.np_words.specs.ReadingForm.{number_of, number}
 use Rattle.np_plan.specs.PlanForm.{to_end, if_unsigned, unsigned_of, unsigned, begins_with_left}
 use Rattle.np_plan.proofs.ToEnd.{to_end_at, end_taken, end_other, end_nothing}
 

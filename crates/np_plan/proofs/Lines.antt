@@ -16,15 +16,15 @@ use Rattle.np_read.proofs.Spelled.{Reads, Made, GoodPair, SamePair, reads_expect
 use Rattle.np_read.proofs.EachRows.{reads_each_row}
 use Rattle.np_read.proofs.Marked.{Placed, plain, placed_expect, placed_before, placed_both, placed_made, placed_same, placed_row}
 use Rattle.np_read.proofs.PlacedParts.{IsAnyPlace, SamePlace, starts_token, starts_placed, reads_token, placed_token, says_spelled, says_marked, token_refuses, before_refuses, both_refuses, made_refuses, reads_placed, placed_placed}
-use Rattle.np_syntax.specs.declared.word.Decimal.{Decimal}
-use Rattle.np_syntax.specs.declared.word.Word.{Word}
-use Rattle.np_syntax.specs.Bare.{nowhere, bare_word, bare_decimal}
-use Rattle.np_syntax.specs.ReadingForm.{number_of, number, name}
-use Rattle.np_syntax.specs.Text.{decimal_text, spelled, marked}
-use Rattle.np_syntax.specs.Text as words
-use Rattle.np_syntax.specs.Written.{is_decimal, IsName}
-use Rattle.np_syntax.proofs.ReadingNumbers.{SameDecimal, decimal_at, decimal_back, reads_decimal, placed_decimal}
-use Rattle.np_syntax.proofs.ReadingWords.{starting_name, reads_name, placed_name, name_avoids}
+use Rattle.np_words.specs.declared.word.Decimal.{Decimal}
+use Rattle.np_words.specs.declared.word.Word.{Word}
+use Rattle.np_words.specs.Bare.{nowhere, bare_word, bare_decimal}
+use Rattle.np_words.specs.ReadingForm.{number_of, number, name}
+use Rattle.np_words.specs.Text.{decimal_text, spelled, marked}
+use Rattle.np_words.specs.Text as words
+use Rattle.np_words.specs.Written.{is_decimal, IsName}
+use Rattle.np_words.proofs.ReadingNumbers.{SameDecimal, decimal_at, decimal_back, reads_decimal, placed_decimal}
+use Rattle.np_words.proofs.ReadingWords.{starting_name, reads_name, placed_name, name_avoids}
 use Rattle.np_plan.specs.declared.plan.PlanLine.{PlanLine}
 use Rattle.np_plan.specs.PlanForm.{colon, if_unsigned, unsigned_of, unsigned, stamp, stamp_if, call, line_of, line}
 use Rattle.np_plan.specs.PlanText.{IsStamp, IsStampIf, IsLine, bare_line}

@@ -8,7 +8,7 @@ use Rattle.std.specs.Str.{bytes_eq}
 use Rattle.std.proofs.Math.Seq.{drop-cons}
 use Rattle.std.proofs.lemmas.List.{append-nil, drop_all}
 use Rattle.std.proofs.lemmas.Slice.Eq.{bytes_eq-Decides}
-use Rattle.np_syntax.specs.declared.word.Word.{Word}
+use Rattle.np_words.specs.declared.word.Word.{Word}
 use Rattle.np_plan.specs.Numbers.{number_from, HasNumbersFrom, numbers_of}
 
 -- ---- maps

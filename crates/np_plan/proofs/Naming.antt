@@ -11,7 +11,7 @@ use Rattle.np_model.specs.declared.task.Step.{Step}
 use Rattle.np_model.specs.declared.task.TaskParts.{TaskParts}
 use Rattle.np_model.specs.Steps.{is_step}
 use Rattle.np_model.specs.Tasks.{AreDistinct, IsTask}
-use Rattle.np_syntax.specs.declared.word.Word.{Word}
+use Rattle.np_words.specs.declared.word.Word.{Word}
 use Rattle.np_plan.specs.declared.plan.PlanLine.{PlanLine}
 use Rattle.np_plan.specs.Numbers.{number_from, numbers_of, if_step, step_of}
 use Rattle.np_plan.specs.Plans.{object_name, Names, NameAll}

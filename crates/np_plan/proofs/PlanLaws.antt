@@ -12,12 +12,12 @@ use Rattle.np_read.proofs.Good.{Goes, Good, Starting, good_of}
 use Rattle.np_read.proofs.GoodParts.{at, starts_made}
 use Rattle.np_read.proofs.Spelled.{Gets, Finds, Back, AllSame, then_at, then_find, gets, head_is}
 use Rattle.np_read.proofs.EachRows.{all_mapped}
-use Rattle.np_syntax.specs.declared.fault.ReadFault.TheVariants as text_fault
-use Rattle.np_syntax.specs.declared.word.Decimal.{Decimal}
-use Rattle.np_syntax.specs.Text.{decimal_text, spelled, marked}
-use Rattle.np_syntax.specs.Text as words
-use Rattle.np_syntax.specs.Wide.{IsShort, IsFirstWide}
-use Rattle.np_syntax.proofs.TextAnswers.{short_spelled, wide_unspelled, short_fault, wide_fault, later_fault, spelled_wide}
+use Rattle.np_words.specs.declared.fault.ReadFault.TheVariants as text_fault
+use Rattle.np_words.specs.declared.word.Decimal.{Decimal}
+use Rattle.np_words.specs.Text.{decimal_text, spelled, marked}
+use Rattle.np_words.specs.Text as words
+use Rattle.np_words.specs.Wide.{IsShort, IsFirstWide}
+use Rattle.np_words.proofs.TextAnswers.{short_spelled, wide_unspelled, short_fault, wide_fault, later_fault, spelled_wide}
 use Rattle.np_plan.specs.declared.plan.PlanLine.{PlanLine}
 use Rattle.np_plan.specs.declared.plan.PlanText.{PlanText}
 use Rattle.np_plan.specs.Faults.{StopsAt, IsUnspelled, IsTextFault}

@@ -28,12 +28,12 @@ use Rattle.np_model.specs.Names as names
 use Rattle.np_model.specs.Steps.{takes, is_step}
 use Rattle.np_model.specs.Tasks.{IsTask}
 use Rattle.np_model.specs.Types.{type_of, fits, all_fit}
-use Rattle.np_syntax.specs.declared.word.Word.{Word}
-use Rattle.np_syntax.specs.Bare.{nowhere}
-use Rattle.np_syntax.specs.Text.{spelled}
-use Rattle.np_syntax.specs.Text as words
-use Rattle.np_syntax.specs.Wide.{IsShortLexeme}
-use Rattle.np_syntax.specs.Written.{is_small_name, is_free_name, IsName}
+use Rattle.np_words.specs.declared.word.Word.{Word}
+use Rattle.np_words.specs.Bare.{nowhere}
+use Rattle.np_words.specs.Text.{spelled}
+use Rattle.np_words.specs.Text as words
+use Rattle.np_words.specs.Wide.{IsShortLexeme}
+use Rattle.np_words.specs.Written.{is_small_name, is_free_name, IsName}
 use Rattle.np_plan.specs.declared.plan.PlanLine.{PlanLine}
 use Rattle.np_plan.specs.declared.plan.PlanText.{PlanText}
 use Rattle.np_plan.specs.Layout.{action_text, object_text, objects_text, step_text, steps_text}

@@ -4,8 +4,8 @@ use Rattle.std.specs.Prelude.{IfOk, IfErr}
 use Rattle.np_model.specs.declared.task.Step.{Step}
 use Rattle.np_model.specs.declared.task.TaskParts.{TaskParts}
 use Rattle.np_model.specs.Tasks.{IsTask}
-use Rattle.np_syntax.specs.declared.fault.ReadFault.{ReadFault}
-use Rattle.np_syntax.specs.declared.fault.ReadFault.TheVariants as text_fault
+use Rattle.np_words.specs.declared.fault.ReadFault.{ReadFault}
+use Rattle.np_words.specs.declared.fault.ReadFault.TheVariants as text_fault
 use Rattle.np_plan.specs.declared.fault.PlanFault.{PlanFault}
 use Rattle.np_plan.specs.declared.fault.PlanFault.TheVariants as fault
 use Rattle.np_plan.specs.declared.plan.PlanLine.{PlanLine}

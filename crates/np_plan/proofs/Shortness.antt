@@ -5,14 +5,14 @@ use Rattle.std.specs.Prelude.{IfSome}
 use Rattle.std.proofs.lemmas.List.Elements.{All-nil, All-cons, All-head, All-tail}
 use Rattle.np_lex.specs.Tokens.{Lexeme, left, right, named, numeral}
 use Rattle.np_read.specs.Marks.{each}
-use Rattle.np_syntax.specs.declared.read.wide.TheConstants.{MOST_DIGITS}
-use Rattle.np_syntax.specs.declared.word.Decimal.{Decimal}
-use Rattle.np_syntax.specs.declared.word.Word.{Word}
-use Rattle.np_syntax.specs.Numbers.{digits_of}
-use Rattle.np_syntax.specs.Text.{decimal_text, spelled}
-use Rattle.np_syntax.specs.Text as words
-use Rattle.np_syntax.specs.Wide.{IsShortLexeme}
-use Rattle.np_syntax.proofs.Numbers.{short_digits}
+use Rattle.np_words.specs.declared.read.wide.TheConstants.{MOST_DIGITS}
+use Rattle.np_words.specs.declared.word.Decimal.{Decimal}
+use Rattle.np_words.specs.declared.word.Word.{Word}
+use Rattle.np_words.specs.Numbers.{digits_of}
+use Rattle.np_words.specs.Text.{decimal_text, spelled}
+use Rattle.np_words.specs.Text as words
+use Rattle.np_words.specs.Wide.{IsShortLexeme}
+use Rattle.np_words.proofs.Numbers.{short_digits}
 use Rattle.np_plan.specs.declared.plan.PlanLine.{PlanLine}
 use Rattle.np_plan.specs.declared.plan.PlanText.{PlanText}
 use Rattle.np_plan.specs.PlanForm.{colon}

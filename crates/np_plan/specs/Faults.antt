@@ -5,10 +5,10 @@ use Rattle.np_lex.specs.declared.token.Place.{Place}
 use Rattle.np_lex.specs.Tokens.{Item, items_of, first_place}
 use Rattle.np_model.specs.declared.task.Step.{Step}
 use Rattle.np_model.specs.declared.task.TaskParts.{TaskParts}
-use Rattle.np_syntax.specs.declared.word.Decimal.{Decimal}
-use Rattle.np_syntax.specs.declared.fault.ReadFault.{ReadFault}
-use Rattle.np_syntax.specs.declared.fault.ReadFault.TheVariants as text_fault
-use Rattle.np_syntax.specs.Wide.{IsSyntaxFault, IsWideFault}
+use Rattle.np_words.specs.declared.word.Decimal.{Decimal}
+use Rattle.np_words.specs.declared.fault.ReadFault.{ReadFault}
+use Rattle.np_words.specs.declared.fault.ReadFault.TheVariants as text_fault
+use Rattle.np_words.specs.Wide.{IsSyntaxFault, IsWideFault}
 use Rattle.np_plan.specs.declared.fault.PlanFault.{PlanFault}
 use Rattle.np_plan.specs.declared.fault.PlanFault.TheVariants as fault
 use Rattle.np_plan.specs.declared.plan.PlanLine.{PlanLine}

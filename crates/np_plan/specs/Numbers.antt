@@ -8,7 +8,7 @@ use Rattle.std.specs.Str.{bytes_eq}
 use Rattle.np_model.specs.declared.task.Step.{Step}
 use Rattle.np_model.specs.declared.task.TaskParts.{TaskParts}
 use Rattle.np_model.specs.Steps.{is_step}
-use Rattle.np_syntax.specs.declared.word.Word.{Word}
+use Rattle.np_words.specs.declared.word.Word.{Word}
 use Rattle.np_plan.specs.declared.plan.PlanLine.{PlanLine}
 
 -- the number of the first item of this name, counted from n

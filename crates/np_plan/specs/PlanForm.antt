@@ -5,9 +5,9 @@ use Rattle.np_lex.specs.declared.token.Place.{Place}
 use Rattle.np_lex.specs.Tokens.{Lexeme, Item, left}
 use Rattle.np_read.specs.ItemReaders.{Reader, pure, refuse, by_next, says, wanted, ended, expect, before, both, made, further, row}
 use Rattle.np_read.specs.PlacedReaders.{token_by, placed}
-use Rattle.np_syntax.specs.declared.word.Decimal.{Decimal}
-use Rattle.np_syntax.specs.declared.word.Word.{Word}
-use Rattle.np_syntax.specs.ReadingForm.{name, number_of}
+use Rattle.np_words.specs.declared.word.Decimal.{Decimal}
+use Rattle.np_words.specs.declared.word.Word.{Word}
+use Rattle.np_words.specs.ReadingForm.{name, number_of}
 use Rattle.np_plan.specs.declared.plan.PlanLine.{PlanLine}
 use Rattle.np_plan.specs.declared.plan.PlanText.{PlanText}
 

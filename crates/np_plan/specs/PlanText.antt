@@ -6,11 +6,11 @@ use Rattle.np_lex.specs.Tokens as tokens
 use Rattle.np_lex.specs.Tokens.{Lexeme, Item, items_of}
 use Rattle.np_read.specs.Lexemes.{lexemes}
 use Rattle.np_read.specs.Marks.{Mark, Fits, each}
-use Rattle.np_syntax.specs.declared.word.Decimal.{Decimal}
-use Rattle.np_syntax.specs.Bare.{nowhere, bare_word, bare_decimal}
-use Rattle.np_syntax.specs.Text.{Printer, spelled, marked, right, name, number}
-use Rattle.np_syntax.specs.Wide.{IsShortLexeme}
-use Rattle.np_syntax.specs.Written.{IsName, IsDecimal}
+use Rattle.np_words.specs.declared.word.Decimal.{Decimal}
+use Rattle.np_words.specs.Bare.{nowhere, bare_word, bare_decimal}
+use Rattle.np_words.specs.Text.{Printer, spelled, marked, right, name, number}
+use Rattle.np_words.specs.Wide.{IsShortLexeme}
+use Rattle.np_words.specs.Written.{IsName, IsDecimal}
 use Rattle.np_plan.specs.declared.plan.PlanLine.{PlanLine}
 use Rattle.np_plan.specs.declared.plan.PlanText.{PlanText}
 use Rattle.np_plan.specs.PlanForm.{colon}

@@ -6,8 +6,8 @@ use Rattle.np_frac.specs.Fractions.{Fraction, fraction_cmp}
 use Rattle.np_model.specs.declared.task.Step.{Step}
 use Rattle.np_model.specs.declared.task.TaskParts.{TaskParts}
 use Rattle.np_model.specs.Steps.{is_step}
-use Rattle.np_syntax.specs.declared.read.wide.TheConstants.{MOST_DIGITS}
-use Rattle.np_syntax.specs.Numbers.{digits_of, fraction_of}
+use Rattle.np_words.specs.declared.read.wide.TheConstants.{MOST_DIGITS}
+use Rattle.np_words.specs.Numbers.{digits_of, fraction_of}
 use Rattle.np_plan.specs.declared.plan.PlanLine.{PlanLine}
 use Rattle.np_plan.specs.declared.plan.PlanText.{PlanText}
 use Rattle.np_plan.specs.PlanText.{SpellsText}

@@ -5,7 +5,7 @@ ghost use Rattle.np_plan.specs.declared.fault.PlanFault.TheVariants.{Memory};
 ghost use Rattle.np_plan.specs.Faults.{from_text};
 
 use np_lex::Place;
-use np_syntax::ReadFault;
+use np_words::ReadFault;
 use std::alloc::{AllocError, AllocFailed};
 use thiserror::Error;
 

@@ -6,7 +6,7 @@ ghost use Rattle.np_plan.specs.Numbers.{HasNumbers, number_from, numbers_of, ste
 use crate::plan::PlanLine;
 use indexmap::IndexMap;
 use np_model::{Action, Name, Object, Objects, Step, TaskParts, is_step};
-use np_syntax::Word;
+use np_words::Word;
 use std::alloc::{AllocError, Global};
 
 /// What goes by a name.

@@ -1,7 +1,7 @@
 //! The text of a plan as a value.
 
 use np_lex::Place;
-use np_syntax::{Decimal, Word};
+use np_words::{Decimal, Word};
 use sqlite_items::Items;
 
 /// The text of a plan: `(action object ..) ..`. Either every line has a stamp, a number without a sign, or none has.

@@ -9,7 +9,7 @@ use Rattle.np_problem.proofs.Facts.{equals, starting_bare_start, starting_some_a
 use Rattle.np_read.specs.declared.fault.ReadFault.{ReadFault}
 use Rattle.np_read.specs.ItemAnswers.{Gives}
 use Rattle.np_read.specs.ItemReaders.{Outcome}
-use Rattle.np_syntax.proofs.ExprLexing.{gives_first, gives_second}
+use Rattle.np_words.proofs.ExprLexing.{gives_first, gives_second}
 
 abbrev Given : {A : Type 0} → List Item → Result A ReadFault → Outcome A → Type 0
 Given rest r read = Gives (λ x. x) rest r read

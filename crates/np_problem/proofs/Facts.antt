@@ -18,19 +18,19 @@ use Rattle.np_read.proofs.GoodParts.{starts_expect, starts_either, starts_after,
 use Rattle.np_read.proofs.Marked.{Placed, placed_expect, placed_same, placed_both, placed_made, placed_after, placed_before, placed_row}
 use Rattle.np_read.proofs.PlacedParts.{MadeOr, reads_either_made, placed_either_made, made_refuses, both_refuses, either_avoids}
 use Rattle.np_read.proofs.Spelled.{Reads, Avoids, Made, GoodPair, SamePair, reads_expect, reads_same, reads_both, reads_made, reads_after, reads_before}
-use Rattle.np_syntax.specs.declared.word.Decimal.{Decimal}
-use Rattle.np_syntax.specs.declared.word.Word.{Word}
-use Rattle.np_syntax.specs.Bare.{bare_word}
+use Rattle.np_words.specs.declared.word.Decimal.{Decimal}
+use Rattle.np_words.specs.declared.word.Word.{Word}
+use Rattle.np_words.specs.Bare.{bare_word}
 use Rattle.np_syntax.specs.ConditionForm.{closed}
-use Rattle.np_syntax.specs.ReadingForm.{name, name_of, number}
-use Rattle.np_syntax.specs.Text.{spelled, marked, operator_lexeme}
-use Rattle.np_syntax.specs.Text as text
-use Rattle.np_syntax.specs.Written.{IsName, IsDecimal}
+use Rattle.np_words.specs.ReadingForm.{name, name_of, number}
+use Rattle.np_words.specs.Text.{spelled, marked, operator_lexeme}
+use Rattle.np_words.specs.Text as text
+use Rattle.np_words.specs.Written.{IsName, IsDecimal}
 use Rattle.np_syntax.proofs.ConditionReads.{not_reserved}
 use Rattle.np_syntax.proofs.Declarations.{after_left_avoids}
-use Rattle.np_syntax.proofs.ExprStarts.{closes}
-use Rattle.np_syntax.proofs.ReadingNumbers.{SameDecimal, starting_decimal, reads_decimal, placed_decimal}
-use Rattle.np_syntax.proofs.ReadingWords.{SameWord, starting_name, reads_name, placed_name, name_avoids}
+use Rattle.np_words.proofs.ExprStarts.{closes}
+use Rattle.np_words.proofs.ReadingNumbers.{SameDecimal, starting_decimal, reads_decimal, placed_decimal}
+use Rattle.np_words.proofs.ReadingWords.{SameWord, starting_name, reads_name, placed_name, name_avoids}
 
 abbrev pub equals : Lexeme
 equals = operator_lexeme (codes "=")

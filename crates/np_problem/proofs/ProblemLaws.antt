@@ -18,11 +18,11 @@ use Rattle.np_read.proofs.GoodParts.{starts_expect, starts_open, good_after, goo
 use Rattle.np_read.proofs.Marked.{Placed, plain, placed_expect, placed_open, placed_same, placed_both, placed_made, placed_after, placed_row}
 use Rattle.np_read.proofs.PlacedParts.{IsAnyPlace, starts_placed, reads_placed, placed_placed}
 use Rattle.np_read.proofs.Spelled.{Reads, Made, GoodPair, SamePair, reads_expect, reads_open, reads_same, reads_both, reads_made, reads_after}
-use Rattle.np_syntax.specs.declared.word.Word.{Word}
-use Rattle.np_syntax.specs.Bare.{nowhere}
-use Rattle.np_syntax.specs.Text.{spelled, marked}
-use Rattle.np_syntax.specs.Written.{IsName}
-use Rattle.np_syntax.proofs.ReadingWords.{SameWord}
+use Rattle.np_words.specs.declared.word.Word.{Word}
+use Rattle.np_words.specs.Bare.{nowhere}
+use Rattle.np_words.specs.Text.{spelled, marked}
+use Rattle.np_words.specs.Written.{IsName}
+use Rattle.np_words.proofs.ReadingWords.{SameWord}
 
 abbrev Named : Type 0
 Named = Word × List ProblemSection

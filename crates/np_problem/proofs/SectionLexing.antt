@@ -12,9 +12,9 @@ use Rattle.np_read.specs.declared.fault.ReadFault.{ReadFault}
 use Rattle.np_read.specs.ItemAnswers.{Gives}
 use Rattle.np_read.specs.ItemReaders.{Outcome, made, row}
 use Rattle.np_read.specs.Takes.{TakesAt}
-use Rattle.np_syntax.specs.declared.word.ListKind.TheVariants.{Names}
+use Rattle.np_words.specs.declared.word.ListKind.TheVariants.{Names}
 use Rattle.np_syntax.specs.DomainForm.{typed_list}
-use Rattle.np_syntax.specs.ReadingForm.{requirement}
+use Rattle.np_words.specs.ReadingForm.{requirement}
 use Rattle.np_syntax.proofs.SectionLexing.{by_taken, by_left}
 use Rattle.np_syntax.proofs.Sections.{requirements_word}
 

@@ -22,28 +22,28 @@ use Rattle.np_read.proofs.Marked.{Placed, plain, placed_expect, placed_same, pla
 use Rattle.np_read.proofs.PlacedParts.{Refuses, MadeOf, IsAnyPlace, SamePlace, starts_placed, reads_placed, placed_placed, made_refuses, both_refuses, token_refuses, token_nothing, silent}
 use Rattle.np_read.proofs.Spelled.{Reads, Avoids, Made, GoodPair, SamePair, reads_expect, reads_same, reads_both, reads_made, reads_after, reads_before}
 use Rattle.np_syntax.specs.declared.condition.Condition.{Condition}
-use Rattle.np_syntax.specs.declared.expr.Expr.{Expr}
-use Rattle.np_syntax.specs.declared.word.Group.{Group}
-use Rattle.np_syntax.specs.declared.word.ListKind.TheVariants.{Names}
-use Rattle.np_syntax.specs.declared.word.Word.{Word}
-use Rattle.np_syntax.specs.Bare.{nowhere, bare_word}
+use Rattle.np_words.specs.declared.expr.Expr.{Expr}
+use Rattle.np_words.specs.declared.word.Group.{Group}
+use Rattle.np_words.specs.declared.word.ListKind.TheVariants.{Names}
+use Rattle.np_words.specs.declared.word.Word.{Word}
+use Rattle.np_words.specs.Bare.{nowhere, bare_word}
 use Rattle.np_syntax.specs.ConditionForm.{condition, closed}
 use Rattle.np_syntax.specs.ConditionText as condition_text
 use Rattle.np_syntax.specs.DomainForm.{typed_list}
-use Rattle.np_syntax.specs.ExprForm.{expr}
-use Rattle.np_syntax.specs.ExprText as expr_text
-use Rattle.np_syntax.specs.ReadingForm.{name, requirement}
-use Rattle.np_syntax.specs.Text.{spelled, marked, keyword_lexeme}
-use Rattle.np_syntax.specs.Text as text
-use Rattle.np_syntax.specs.Written.{IsWord, IsName, AreGroups}
+use Rattle.np_words.specs.ExprForm.{expr}
+use Rattle.np_words.specs.ExprText as expr_text
+use Rattle.np_words.specs.ReadingForm.{name, requirement}
+use Rattle.np_words.specs.Text.{spelled, marked, keyword_lexeme}
+use Rattle.np_words.specs.Text as text
+use Rattle.np_words.specs.Written.{IsWord, IsName, AreGroups}
 use Rattle.np_syntax.proofs.ConditionPlaced.{placed_condition}
 use Rattle.np_syntax.proofs.ConditionReads.{SameCondition, reads_condition}
 use Rattle.np_syntax.proofs.ConditionStarts.{starting_condition}
 use Rattle.np_syntax.proofs.Declarations.{after_left_avoids}
-use Rattle.np_syntax.proofs.ExprPlaced.{placed_expr}
-use Rattle.np_syntax.proofs.ExprReads.{SameExpr, reads_expr}
-use Rattle.np_syntax.proofs.ExprStarts.{closes, starting_expr}
-use Rattle.np_syntax.proofs.ReadingWords.{SameWord, starting_name, reads_name, placed_name, starting_requirement, reads_requirement, placed_requirement, requirement_avoids}
+use Rattle.np_words.proofs.ExprPlaced.{placed_expr}
+use Rattle.np_words.proofs.ExprReads.{SameExpr, reads_expr}
+use Rattle.np_words.proofs.ExprStarts.{closes, starting_expr}
+use Rattle.np_words.proofs.ReadingWords.{SameWord, starting_name, reads_name, placed_name, starting_requirement, reads_requirement, placed_requirement, requirement_avoids}
 use Rattle.np_syntax.proofs.Sections.{requirements_word, other_place, starts_by_place, by_place_avoids, by_place_nothing, reads_by_place, placed_by_place}
 use Rattle.np_syntax.proofs.TypedLists.{good_typed_list, reads_typed_list, placed_typed_list}
 

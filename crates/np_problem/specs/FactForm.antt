@@ -4,11 +4,11 @@ use Rattle.np_lex.specs.Tokens.{left, named}
 use Rattle.np_problem.specs.declared.problem.Fact.{Fact}
 use Rattle.np_problem.specs.declared.problem.Fact.TheVariants as f
 use Rattle.np_read.specs.ItemReaders.{Reader, expect, either, after, both, made, row}
-use Rattle.np_syntax.specs.declared.word.Decimal.{Decimal}
-use Rattle.np_syntax.specs.declared.word.Word.{Word}
+use Rattle.np_words.specs.declared.word.Decimal.{Decimal}
+use Rattle.np_words.specs.declared.word.Word.{Word}
 use Rattle.np_syntax.specs.ConditionForm.{closed}
-use Rattle.np_syntax.specs.ReadingForm.{name, number}
-use Rattle.np_syntax.specs.Text.{operator_lexeme}
+use Rattle.np_words.specs.ReadingForm.{name, number}
+use Rattle.np_words.specs.Text.{operator_lexeme}
 
 -- a name and names, and the bracket
 unfoldable pub names : Reader (Word × List Word)

@@ -5,10 +5,10 @@ use Rattle.np_lex.specs.Tokens.{Lexeme}
 use Rattle.np_problem.specs.declared.problem.Fact.{Fact}
 use Rattle.np_problem.specs.declared.problem.Fact.TheVariants as f
 use Rattle.np_read.specs.Marks.{each}
-use Rattle.np_syntax.specs.declared.word.Word.{Word}
-use Rattle.np_syntax.specs.Bare.{bare_word, bare_decimal}
-use Rattle.np_syntax.specs.Text.{Printer, left, right, fixed_name, operator, name, number}
-use Rattle.np_syntax.specs.Written.{IsName, IsDecimal}
+use Rattle.np_words.specs.declared.word.Word.{Word}
+use Rattle.np_words.specs.Bare.{bare_word, bare_decimal}
+use Rattle.np_words.specs.Text.{Printer, left, right, fixed_name, operator, name, number}
+use Rattle.np_words.specs.Written.{IsName, IsDecimal}
 
 -- ---- the text
 

@@ -9,14 +9,14 @@ use Rattle.np_problem.specs.ProblemText.{goal_levels, metric_levels}
 use Rattle.np_read.specs.ItemReaders.{Reader, expect, open_with, after, both, made, row}
 use Rattle.np_read.specs.PlacedReaders.{place_if, placed, either_by}
 use Rattle.np_syntax.specs.declared.condition.Condition.{Condition}
-use Rattle.np_syntax.specs.declared.expr.Expr.{Expr}
-use Rattle.np_syntax.specs.declared.word.ListKind.TheVariants.{Names}
-use Rattle.np_syntax.specs.declared.word.Word.{Word}
+use Rattle.np_words.specs.declared.expr.Expr.{Expr}
+use Rattle.np_words.specs.declared.word.ListKind.TheVariants.{Names}
+use Rattle.np_words.specs.declared.word.Word.{Word}
 use Rattle.np_syntax.specs.ConditionForm.{condition, closed}
 use Rattle.np_syntax.specs.DomainForm.{typed_list}
-use Rattle.np_syntax.specs.ExprForm.{expr}
-use Rattle.np_syntax.specs.ReadingForm.{name, requirement}
-use Rattle.np_syntax.specs.Text.{keyword_lexeme}
+use Rattle.np_words.specs.ExprForm.{expr}
+use Rattle.np_words.specs.ReadingForm.{name, requirement}
+use Rattle.np_words.specs.Text.{keyword_lexeme}
 
 -- a name, a goal and a metric, each with the bracket after it
 unfoldable pub last_name : Reader Word

@@ -4,8 +4,8 @@ use Rattle.np_lex.specs.Tokens.{Lexeme}
 use Rattle.np_problem.specs.declared.problem.Problem.{Problem}
 use Rattle.np_problem.specs.ProblemText.{problem, IsProblem}
 use Rattle.np_read.specs.Marks.{Mark}
-use Rattle.np_syntax.specs.Text.{spelled, marked}
-use Rattle.np_syntax.specs.Texts.{IsSpelled, KeepsPlaces}
+use Rattle.np_words.specs.Text.{spelled, marked}
+use Rattle.np_words.specs.Texts.{IsSpelled, KeepsPlaces}
 
 -- the lexemes of a problem
 abbrev pub problem_text : Problem → List Lexeme

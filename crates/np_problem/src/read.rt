@@ -9,10 +9,10 @@ ghost use Rattle.np_lex.specs.declared.token.Place.{Place};
 ghost use Rattle.np_problem.specs.ProblemText.{IsProblem, bare_problem};
 ghost use Rattle.np_problem.specs.Problems.{problem_text, Spells, IsPlaced};
 ghost use Rattle.np_problem.specs.declared.problem.Problem.{Problem};
-ghost use Rattle.np_syntax.specs.Texts.{is_memory};
-ghost use Rattle.np_syntax.specs.Wide.{IsSyntaxFault, IsWideFault};
-ghost use Rattle.np_syntax.specs.declared.fault.ReadFault.{ReadFault};
-ghost use Rattle.np_syntax.specs.declared.fault.ReadFault.TheVariants.{At, NumberWide};
+ghost use Rattle.np_words.specs.Texts.{is_memory};
+ghost use Rattle.np_words.specs.Wide.{IsSyntaxFault, IsWideFault};
+ghost use Rattle.np_words.specs.declared.fault.ReadFault.{ReadFault};
+ghost use Rattle.np_words.specs.declared.fault.ReadFault.TheVariants.{At, NumberWide};
 
 use crate::problem::Problem;
 use np_lex::Lexer;

@@ -13,14 +13,14 @@ use Rattle.np_syntax.specs.declared.condition.Condition.{Condition}
 use Rattle.np_syntax.specs.declared.effect.Effect.{Effect}
 use Rattle.np_syntax.specs.declared.domain.DomainSection.{DomainSection}
 use Rattle.np_lex.specs.declared.token.Place.{Place}
-use Rattle.np_syntax.specs.declared.word.Group.{Group}
-use Rattle.np_syntax.specs.declared.word.Word.{Word}
-use Rattle.np_syntax.specs.ReadingForm.{name}
+use Rattle.np_words.specs.declared.word.Group.{Group}
+use Rattle.np_words.specs.declared.word.Word.{Word}
+use Rattle.np_words.specs.ReadingForm.{name}
 use Rattle.np_syntax.specs.SectionForm.{given, parameters, from_effect, from_precondition, from_parameters, from_action}
 use Rattle.np_syntax.specs.ActionForm.{action_condition, action_effect, last_part, later_parts, parts, action_by_parts}
-use Rattle.np_syntax.specs.TailedRows.{tail_or_none}
+use Rattle.np_words.specs.TailedRows.{tail_or_none}
 use Rattle.np_syntax.proofs.Sections.{effect_word, precondition_word, parameters_word, action_word, action_of, Parts}
-use Rattle.np_syntax.proofs.TailedLexing.{tail_comes, no_tail}
+use Rattle.np_words.proofs.TailedLexing.{tail_comes, no_tail}
 
 -- ---- what is given is a value or none, and then the rest
 

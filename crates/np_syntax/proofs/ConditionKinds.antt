@@ -3,19 +3,19 @@ use Rattle.std.proofs.Common.{◌≡◌, ◌⊎◌, inl, inr, ℕ, zero, suc, Li
 use Rattle.std.specs.List.{All}
 use Rattle.np_read.proofs.PlacedParts.{MadeOr, MadeOf}
 use Rattle.np_read.proofs.Spelled.{Made, GoodPair}
-use Rattle.np_syntax.specs.declared.word.Word.{Word}
-use Rattle.np_syntax.specs.declared.word.Ident.{Ident}
-use Rattle.np_syntax.specs.declared.expr.Expr.{Expr}
+use Rattle.np_words.specs.declared.word.Word.{Word}
+use Rattle.np_words.specs.declared.word.Ident.{Ident}
+use Rattle.np_words.specs.declared.expr.Expr.{Expr}
 use Rattle.np_syntax.specs.declared.condition.Op.{Op}
 use Rattle.np_syntax.specs.declared.condition.Side.{Side}
 use Rattle.np_syntax.specs.declared.condition.Condition.{Condition, out-Condition}
 use Rattle.np_syntax.specs.declared.condition.Condition.TheOpen.{Condition-F}
 use Rattle.np_syntax.specs.declared.condition.Condition.TheVariants as c
 use Rattle.np_syntax.specs.declared.condition.Condition.TheViews.{roll-Condition, out-roll-Condition, roll-out-Condition}
-use Rattle.np_syntax.specs.ExprText.{IsExpr}
+use Rattle.np_words.specs.ExprText.{IsExpr}
 use Rattle.np_syntax.specs.ConditionText.{IsSide, InBracket, IsConditionOf}
-use Rattle.np_syntax.specs.Written.{IsName, IsIdent}
-use Rattle.np_syntax.proofs.ExprKinds.{IsUnit}
+use Rattle.np_words.specs.Written.{IsName, IsIdent}
+use Rattle.np_words.proofs.ExprKinds.{IsUnit}
 
 -- ---- how values are made
 

@@ -15,18 +15,18 @@ use Rattle.np_read.specs.Takes.{lexeme, TakesAt}
 use Rattle.np_read.proofs.Same.{same_kind_true}
 use Rattle.np_read.proofs.ItemLexing.{first_taken}
 use Rattle.np_read.proofs.PlacedLexing.{token_taken, token_refused, token_missing, either_by_read, either_by_unread, refused_whole}
-use Rattle.np_syntax.specs.declared.word.Word.{Word}
+use Rattle.np_words.specs.declared.word.Word.{Word}
 use Rattle.np_syntax.specs.declared.condition.Op.{Op}
 use Rattle.np_syntax.specs.declared.condition.Side.TheVariants as side
 use Rattle.np_syntax.specs.declared.condition.Condition.{Condition}
 use Rattle.np_syntax.specs.declared.condition.Condition.TheVariants as c
 use Rattle.np_syntax.specs.ConditionForm.{op_in, op_of, comparison, place_in, expr_side, one_side, not_same, not_compared, not_atom, not_from_compare, in_not, negated, compared, some_atom, from_compare, equal, from_equal, from_not, all_of, from_and, in_bracket, no_parts, condition, parts}
-use Rattle.np_syntax.specs.ExprForm.{expr}
-use Rattle.np_syntax.specs.ReadingForm.{variable, variable_of}
-use Rattle.np_syntax.specs.Text.{operator_lexeme}
+use Rattle.np_words.specs.ExprForm.{expr}
+use Rattle.np_words.specs.ReadingForm.{variable, variable_of}
+use Rattle.np_words.specs.Text.{operator_lexeme}
 use Rattle.np_syntax.proofs.ConditionReads.{variable_made}
 use Rattle.np_syntax.proofs.ConditionStarts.{starting_some_atom, starting_not_atom, starting_expr_side, starting_not_from_compare, starting_from_compare, starting_from_equal, starting_from_not, starting_from_and, good_parts}
-use Rattle.np_syntax.proofs.ExprLexing.{gives_first, gives_second}
+use Rattle.np_words.proofs.ExprLexing.{gives_first, gives_second}
 
 abbrev Given : List Item → Result Condition ReadFault → Outcome Condition → Type 0
 Given rest r read = Gives (λ x. x) rest r read

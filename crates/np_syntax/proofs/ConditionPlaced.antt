@@ -7,30 +7,30 @@ use Rattle.np_read.specs.ItemReaders.{Reader, expect, after, row}
 use Rattle.np_read.proofs.Marked.{Placed, plain, placed_pure, placed_expect, placed_either, placed_same, placed_again, placed_both, placed_made, placed_after, placed_before, placed_row}
 use Rattle.np_read.proofs.PlacedParts.{SaysMarked, says_marked, placed_either_made, placed_either_by}
 use Rattle.np_read.proofs.Spelled.{Made}
-use Rattle.np_syntax.specs.declared.word.Word.{Word}
-use Rattle.np_syntax.specs.declared.word.Ident.{Ident}
-use Rattle.np_syntax.specs.declared.expr.Expr.{Expr}
+use Rattle.np_words.specs.declared.word.Word.{Word}
+use Rattle.np_words.specs.declared.word.Ident.{Ident}
+use Rattle.np_words.specs.declared.expr.Expr.{Expr}
 use Rattle.np_syntax.specs.declared.condition.Op.{Op}
 use Rattle.np_syntax.specs.declared.condition.Side.{Side}
 use Rattle.np_syntax.specs.declared.condition.Condition.{Condition, out-Condition}
 use Rattle.np_syntax.specs.ConditionForm.{op_of, operands, atom, expr_side, one_side, last_side, not_same, not_compared, not_atom, not_from_compare, in_not, negated, compared, some_atom, from_compare, equal, from_equal, from_not, all_of, from_and, in_bracket, no_parts, condition, place_in}
 use Rattle.np_syntax.specs.ConditionText.{op_text, IsSide, IsConditionOf, IsCondition}
 use Rattle.np_syntax.specs.ConditionText as printed
-use Rattle.np_syntax.specs.ExprForm.{expr}
-use Rattle.np_syntax.specs.ExprText.{IsExpr}
-use Rattle.np_syntax.specs.ExprText as expressions
-use Rattle.np_syntax.specs.ReadingForm.{variable, variable_of}
-use Rattle.np_syntax.specs.Text.{marked, operator_lexeme, variable_lexeme}
-use Rattle.np_syntax.specs.Text as text
-use Rattle.np_syntax.specs.Written.{IsWord}
+use Rattle.np_words.specs.ExprForm.{expr}
+use Rattle.np_words.specs.ExprText.{IsExpr}
+use Rattle.np_words.specs.ExprText as expressions
+use Rattle.np_words.specs.ReadingForm.{variable, variable_of}
+use Rattle.np_words.specs.Text.{marked, operator_lexeme, variable_lexeme}
+use Rattle.np_words.specs.Text as text
+use Rattle.np_words.specs.Written.{IsWord}
 use Rattle.np_syntax.proofs.ConditionKinds.{nothing_made, and_made, atom_made, not_atom_made, compare_made, not_compare_made, equal_made, not_same_made, IsAnyOp, GoodAtom, GoodOperands, NotFromCompare, Negated, FromCompare, FromEqual, FromNot, FromAnd, enclosed_is}
 use Rattle.np_syntax.proofs.ConditionReads.{op_spelled, expr_made, variable_made, side_is, no_made, none_is}
 use Rattle.np_syntax.proofs.ConditionTexts.{text_nothing, text_and, text_atom, text_not_atom, text_compare, text_not_compare, text_equal, text_not_same, opens}
-use Rattle.np_syntax.proofs.ExprBegins.{begins_expr}
-use Rattle.np_syntax.proofs.ExprPlaced.{mark_idents, placed_idents, placed_last, placed_expr}
-use Rattle.np_syntax.proofs.ExprPlaced as exprs
-use Rattle.np_syntax.proofs.ExprTexts.{tail_of}
-use Rattle.np_syntax.proofs.ReadingWords.{placed_name, placed_variable, placed_identifier}
+use Rattle.np_words.proofs.ExprBegins.{begins_expr}
+use Rattle.np_words.proofs.ExprPlaced.{mark_idents, placed_idents, placed_last, placed_expr}
+use Rattle.np_words.proofs.ExprPlaced as exprs
+use Rattle.np_words.proofs.ExprTexts.{tail_of}
+use Rattle.np_words.proofs.ReadingWords.{placed_name, placed_variable, placed_identifier}
 use Rattle.np_syntax.proofs.Sides.{MadeAt, placed_kept, begins_more}
 
 abbrev pub marks : Condition → Marking

@@ -18,36 +18,36 @@ use Rattle.np_read.proofs.GoodParts.{good_row}
 use Rattle.np_read.proofs.EachRows.{reads_again, reads_each_row}
 use Rattle.np_read.proofs.PlacedParts.{Refuses, AvoidsSaid, said_by, SaysSpelled, SaysBack, says_spelled, says_back, MadeOf, reads_either_made, reads_either_by, made_refuses, both_refuses, after_refuses, before_refuses, expect_avoids, either_avoids, either_by_refuses, silent}
 use Rattle.np_read.proofs.Spelled.{Reads, Avoids, Made, SamePair, reads_pure, reads_expect, reads_either, reads_same, reads_both, reads_made, reads_after, reads_before}
-use Rattle.np_syntax.specs.declared.word.Word.{Word}
-use Rattle.np_syntax.specs.declared.word.Ident.{Ident}
-use Rattle.np_syntax.specs.declared.expr.Expr.{Expr}
+use Rattle.np_words.specs.declared.word.Word.{Word}
+use Rattle.np_words.specs.declared.word.Ident.{Ident}
+use Rattle.np_words.specs.declared.expr.Expr.{Expr}
 use Rattle.np_syntax.specs.declared.condition.Op.{Op}
 use Rattle.np_syntax.specs.declared.condition.Op.TheVariants.{Less, Greater, AtMost, AtLeast}
 use Rattle.np_syntax.specs.declared.condition.Side.{Side}
 use Rattle.np_syntax.specs.declared.condition.Side.TheVariants as side
 use Rattle.np_syntax.specs.declared.condition.Condition.{Condition, out-Condition}
 use Rattle.np_syntax.specs.declared.condition.Condition.TheVariants as c
-use Rattle.np_syntax.specs.Bare.{nowhere, bare_word, bare_ident}
+use Rattle.np_words.specs.Bare.{nowhere, bare_word, bare_ident}
 use Rattle.np_syntax.specs.ConditionForm.{op_in, op_of, operands, atom, expr_side, one_side, last_side, not_same, not_compared, not_atom, not_from_compare, in_not, negated, compared, some_atom, from_compare, equal, from_equal, from_not, all_of, from_and, in_bracket, no_parts, condition}
 use Rattle.np_syntax.specs.ConditionText.{op_text, IsSide, IsConditionOf, IsCondition, bare_side, bare_condition}
 use Rattle.np_syntax.specs.ConditionText as printed
-use Rattle.np_syntax.specs.ExprForm.{expr}
-use Rattle.np_syntax.specs.ExprText.{IsExpr, bare_expr}
-use Rattle.np_syntax.specs.ExprText as expressions
-use Rattle.np_syntax.specs.ReadingForm.{name, variable, identifier, name_of, variable_of}
-use Rattle.np_syntax.specs.Text.{spelled, operator_lexeme, variable_lexeme}
-use Rattle.np_syntax.specs.Text as text
-use Rattle.np_syntax.specs.Written.{IsWord, is_small_name, is_free_name}
+use Rattle.np_words.specs.ExprForm.{expr}
+use Rattle.np_words.specs.ExprText.{IsExpr, bare_expr}
+use Rattle.np_words.specs.ExprText as expressions
+use Rattle.np_words.specs.ReadingForm.{name, variable, identifier, name_of, variable_of}
+use Rattle.np_words.specs.Text.{spelled, operator_lexeme, variable_lexeme}
+use Rattle.np_words.specs.Text as text
+use Rattle.np_words.specs.Written.{IsWord, is_small_name, is_free_name}
 use Rattle.np_syntax.proofs.ConditionKinds.{nothing_made, and_made, atom_made, not_atom_made, compare_made, not_compare_made, equal_made, not_same_made, IsAnyOp, GoodAtom, GoodOperands, NotFromCompare, Negated, FromCompare, FromEqual, FromNot, FromAnd, enclosed_is, is_enclosed}
 use Rattle.np_syntax.proofs.ConditionStarts.{starting_some_atom, starting_not_atom, starting_not_from_compare, starting_from_compare, starting_from_equal, starting_from_not, starting_from_and, starting_condition, good_no_parts}
 use Rattle.np_syntax.proofs.ConditionTexts.{text_nothing, text_and, text_atom, text_not_atom, text_compare, text_not_compare, text_equal, text_not_same, opens, bare_and, bare_atom, bare_not_atom, bare_compare, bare_not_compare, bare_equal, bare_not_same}
-use Rattle.np_syntax.proofs.ExprBegins.{begins_expr}
-use Rattle.np_syntax.proofs.ExprKinds.{IsUnit}
-use Rattle.np_syntax.proofs.ExprReads.{SameExpr, print_idents, SameIdents, reads_idents, reads_last, expr_avoids, expr_ends, reads_expr}
-use Rattle.np_syntax.proofs.ExprReads as exprs
-use Rattle.np_syntax.proofs.ExprStarts.{starting_expr}
-use Rattle.np_syntax.proofs.ExprTexts.{tail_of}
-use Rattle.np_syntax.proofs.ReadingWords.{SameWord, SameIdent, reads_name, reads_variable, reads_identifier, name_avoids}
+use Rattle.np_words.proofs.ExprBegins.{begins_expr}
+use Rattle.np_words.proofs.ExprKinds.{IsUnit}
+use Rattle.np_words.proofs.ExprReads.{SameExpr, print_idents, SameIdents, reads_idents, reads_last, expr_avoids, expr_ends, reads_expr}
+use Rattle.np_words.proofs.ExprReads as exprs
+use Rattle.np_words.proofs.ExprStarts.{starting_expr}
+use Rattle.np_words.proofs.ExprTexts.{tail_of}
+use Rattle.np_words.proofs.ReadingWords.{SameWord, SameIdent, reads_name, reads_variable, reads_identifier, name_avoids}
 use Rattle.np_syntax.proofs.Sides.{MadeAt, reads_kept, kept_refuses}
 
 -- the same but for places

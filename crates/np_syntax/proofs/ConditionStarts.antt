@@ -8,15 +8,15 @@ use Rattle.np_read.proofs.PlacedParts.{starts_either_by}
 use Rattle.np_syntax.specs.declared.condition.Condition.{Condition}
 use Rattle.np_syntax.specs.declared.condition.Op.TheVariants.{Less}
 use Rattle.np_syntax.specs.declared.condition.Side.TheVariants as side
-use Rattle.np_syntax.specs.Bare.{nowhere}
+use Rattle.np_words.specs.Bare.{nowhere}
 use Rattle.np_syntax.specs.ConditionForm.{op_of, operands, atom, expr_side, one_side, last_side, not_same, not_compared, not_atom, not_from_compare, in_not, negated, compared, some_atom, from_compare, equal, from_equal, from_not, all_of, from_and, in_bracket, no_parts, condition, parts}
-use Rattle.np_syntax.specs.ExprForm.{expr, last}
-use Rattle.np_syntax.specs.ReadingForm.{name, identifier, variable_of}
-use Rattle.np_syntax.specs.Text.{operator_lexeme, variable_lexeme}
-use Rattle.np_syntax.specs.Written.{is_small_name}
+use Rattle.np_words.specs.ExprForm.{expr, last}
+use Rattle.np_words.specs.ReadingForm.{name, identifier, variable_of}
+use Rattle.np_words.specs.Text.{operator_lexeme, variable_lexeme}
+use Rattle.np_words.specs.Written.{is_small_name}
 use Rattle.np_syntax.proofs.ConditionKinds.{nothing_made, and_made, atom_made, not_atom_made, compare_made, not_compare_made, equal_made, not_same_made}
-use Rattle.np_syntax.proofs.ExprStarts.{closes, starting_expr, starting_last}
-use Rattle.np_syntax.proofs.ReadingWords.{starting_name, starting_identifier}
+use Rattle.np_words.proofs.ExprStarts.{closes, starting_expr, starting_last}
+use Rattle.np_words.proofs.ReadingWords.{starting_name, starting_identifier}
 use Rattle.np_syntax.proofs.Sides.{starts_kept}
 
 less_says : op_of nowhere (operator_lexeme (codes "<")) ≡ Some Less

@@ -3,9 +3,9 @@ use Rattle.std.proofs.Common.{◌≡◌, List, map, sym, ap, subst, ◌∙◌, c
 use Rattle.np_lex.specs.declared.token.Place.{Place}
 use Rattle.np_lex.specs.Tokens.{Lexeme}
 use Rattle.np_read.specs.Marks.{each}
-use Rattle.np_syntax.specs.declared.word.Word.{Word}
-use Rattle.np_syntax.specs.declared.word.Ident.{Ident}
-use Rattle.np_syntax.specs.declared.expr.Expr.{Expr}
+use Rattle.np_words.specs.declared.word.Word.{Word}
+use Rattle.np_words.specs.declared.word.Ident.{Ident}
+use Rattle.np_words.specs.declared.expr.Expr.{Expr}
 use Rattle.np_syntax.specs.declared.condition.Op.{Op}
 use Rattle.np_syntax.specs.declared.condition.Side.{Side}
 use Rattle.np_syntax.specs.declared.condition.Condition.{Condition, out-Condition}
@@ -13,11 +13,11 @@ use Rattle.np_syntax.specs.declared.condition.Condition.TheFolds.{fold-Condition
 use Rattle.np_syntax.specs.declared.condition.Condition.TheOpen.{Condition-F}
 use Rattle.np_syntax.specs.declared.condition.Condition.TheVariants as c
 use Rattle.np_syntax.specs.declared.condition.Condition.TheViews.{roll-Condition, roll-out-Condition}
-use Rattle.np_syntax.specs.Bare.{bare_word, bare_ident}
-use Rattle.np_syntax.specs.ExprText.{bare_expr}
+use Rattle.np_words.specs.Bare.{bare_word, bare_ident}
+use Rattle.np_words.specs.ExprText.{bare_expr}
 use Rattle.np_syntax.specs.ConditionText.{side_text, comparison, negation, condition_step, condition, bare_side, bare_step, bare_condition}
-use Rattle.np_syntax.specs.Text.{Printer, left, right, fixed_name, operator, identifier, call}
-use Rattle.np_syntax.proofs.ExprTexts.{tail_of, each_map}
+use Rattle.np_words.specs.Text.{Printer, left, right, fixed_name, operator, identifier, call}
+use Rattle.np_words.proofs.ExprTexts.{tail_of, each_map}
 
 module _ {T : Type 0} (token : List Place → Lexeme → T) where
   -- by its level

@@ -16,23 +16,23 @@ use Rattle.np_read.proofs.Spelled.{Reads, Avoids, Made, GoodPair, AllSame, IsAny
 use Rattle.np_read.proofs.Marked.{Placed, placed_expect, placed_both, placed_made, placed_after, placed_same}
 use Rattle.np_read.proofs.PlacedParts.{after_refuses}
 use Rattle.np_syntax.specs.declared.domain.Declared.{Declared}
-use Rattle.np_syntax.specs.declared.word.Word.{Word}
-use Rattle.np_syntax.specs.declared.word.Group.{Group}
-use Rattle.np_syntax.specs.declared.word.ListKind.TheVariants.{Variables}
-use Rattle.np_syntax.specs.Written.{IsName, AreGroups}
-use Rattle.np_syntax.specs.Text.{Printer, minus, spelled, marked}
-use Rattle.np_syntax.specs.Text as text
+use Rattle.np_words.specs.declared.word.Word.{Word}
+use Rattle.np_words.specs.declared.word.Group.{Group}
+use Rattle.np_words.specs.declared.word.ListKind.TheVariants.{Variables}
+use Rattle.np_words.specs.Written.{IsName, AreGroups}
+use Rattle.np_words.specs.Text.{Printer, minus, spelled, marked}
+use Rattle.np_words.specs.Text as text
 use Rattle.np_syntax.specs.DomainText.{IsDeclared, IsFunction, bare_declared, bare_function}
 use Rattle.np_syntax.specs.DomainText as domain_text
-use Rattle.np_syntax.specs.ReadingForm.{name}
-use Rattle.np_syntax.specs.TailedRows.{tailed_row}
+use Rattle.np_words.specs.ReadingForm.{name}
+use Rattle.np_words.specs.TailedRows.{tailed_row}
 use Rattle.np_syntax.specs.DomainForm.{typed_list, declared, number_word, numbered, mark_of, functions}
-use Rattle.np_syntax.proofs.ReadingWords.{SameWord, starting_name, reads_name, placed_name}
+use Rattle.np_words.proofs.ReadingWords.{SameWord, starting_name, reads_name, placed_name}
 use Rattle.np_syntax.proofs.TypedLists.{SameGroups, minus_differs, good_typed_list, reads_typed_list, placed_typed_list}
-use Rattle.np_syntax.proofs.TailedGood.{good_rest}
-use Rattle.np_syntax.proofs.TailedKept.{IfTail, GoodEntry, print_tail, print_row}
-use Rattle.np_syntax.proofs.TailedPlaced.{placed_tailed}
-use Rattle.np_syntax.proofs.TailedSpelled.{SameTail, SameEntry, reads_tailed}
+use Rattle.np_words.proofs.TailedGood.{good_rest}
+use Rattle.np_words.proofs.TailedKept.{IfTail, GoodEntry, print_tail, print_row}
+use Rattle.np_words.proofs.TailedPlaced.{placed_tailed}
+use Rattle.np_words.proofs.TailedSpelled.{SameTail, SameEntry, reads_tailed}
 
 -- ---- one declaration
 

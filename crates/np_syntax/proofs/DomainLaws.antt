@@ -13,7 +13,7 @@ use Rattle.np_syntax.specs.ConditionText as condition_text
 use Rattle.np_syntax.specs.EffectText.{bare_effect}
 use Rattle.np_syntax.specs.EffectText as effect_text
 use Rattle.np_syntax.specs.SectionText as section_text
-use Rattle.np_syntax.specs.Text.{spelled, marked}
+use Rattle.np_words.specs.Text.{spelled, marked}
 use Rattle.np_syntax.specs.ActionForm.{depth, action_condition, action_effect, domain_section, domain}
 use Rattle.np_syntax.specs.Domains.{IsActionCondition, IsActionEffect, IsDomain, bare_domain}
 use Rattle.np_syntax.proofs.ConditionStarts.{starting_condition}

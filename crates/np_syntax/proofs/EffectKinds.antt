@@ -3,9 +3,9 @@ use Rattle.std.proofs.Common.{◌≡◌, ◌⊎◌, inl, inr, ℕ, zero, suc, Bo
 use Rattle.std.specs.List.{All}
 use Rattle.np_read.proofs.PlacedParts.{MadeOr}
 use Rattle.np_read.proofs.Spelled.{Made, GoodPair}
-use Rattle.np_syntax.specs.declared.word.Word.{Word}
-use Rattle.np_syntax.specs.declared.word.Ident.{Ident}
-use Rattle.np_syntax.specs.declared.expr.Expr.{Expr}
+use Rattle.np_words.specs.declared.word.Word.{Word}
+use Rattle.np_words.specs.declared.word.Ident.{Ident}
+use Rattle.np_words.specs.declared.expr.Expr.{Expr}
 use Rattle.np_syntax.specs.declared.effect.Effect.{Effect, out-Effect}
 use Rattle.np_syntax.specs.declared.effect.Effect.TheOpen.{Effect-F}
 use Rattle.np_syntax.specs.declared.effect.Effect.TheVariants as e
@@ -13,10 +13,10 @@ use Rattle.np_syntax.specs.declared.effect.Effect.TheViews.{roll-Effect, out-rol
 use Rattle.np_syntax.specs.ConditionText.{InBracket}
 use Rattle.np_syntax.specs.EffectForm.{Target}
 use Rattle.np_syntax.specs.EffectText.{IsTarget, IsEffectOf}
-use Rattle.np_syntax.specs.ExprText.{IsExpr}
-use Rattle.np_syntax.specs.Written.{IsName}
+use Rattle.np_words.specs.ExprText.{IsExpr}
+use Rattle.np_words.specs.Written.{IsName}
 use Rattle.np_syntax.proofs.ConditionKinds.{GoodAtom}
-use Rattle.np_syntax.proofs.ExprKinds.{IsUnit}
+use Rattle.np_words.proofs.ExprKinds.{IsUnit}
 
 -- ---- targets
 

@@ -11,7 +11,7 @@ use Rattle.np_syntax.specs.declared.effect.Effect.{Effect}
 use Rattle.np_syntax.specs.declared.effect.Effect.TheVariants as e
 use Rattle.np_syntax.specs.EffectForm.{Target, bare_target, called_target, target, added, decreased, from_decrease, increased, from_increase, deleted, from_not, all_of, from_and, in_bracket, no_parts, effect, parts}
 use Rattle.np_syntax.proofs.EffectStarts.{starting_bare_target, starting_added, starting_from_decrease, starting_from_increase, starting_from_not, starting_from_and, good_parts}
-use Rattle.np_syntax.proofs.ExprLexing.{gives_first, gives_second}
+use Rattle.np_words.proofs.ExprLexing.{gives_first, gives_second}
 
 abbrev Given : List Item → Result Effect ReadFault → Outcome Effect → Type 0
 Given rest r read = Gives (λ x. x) rest r read

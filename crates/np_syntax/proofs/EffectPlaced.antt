@@ -7,23 +7,23 @@ use Rattle.np_read.specs.ItemReaders.{Reader, expect, after, row}
 use Rattle.np_read.proofs.Marked.{Placed, plain, placed_pure, placed_expect, placed_either, placed_same, placed_again, placed_both, placed_made, placed_after, placed_before, placed_row}
 use Rattle.np_read.proofs.PlacedParts.{placed_either_made}
 use Rattle.np_read.proofs.Spelled.{Made}
-use Rattle.np_syntax.specs.declared.expr.Expr.{Expr}
+use Rattle.np_words.specs.declared.expr.Expr.{Expr}
 use Rattle.np_syntax.specs.declared.effect.Effect.{Effect, out-Effect}
 use Rattle.np_syntax.specs.EffectForm.{Target, bare_target, called_target, target, change, added, decreased, from_decrease, increased, from_increase, deleted, from_not, all_of, from_and, in_bracket, no_parts, effect}
 use Rattle.np_syntax.specs.EffectText.{IsEffectOf, IsEffect}
 use Rattle.np_syntax.specs.EffectText as printed
-use Rattle.np_syntax.specs.ExprForm.{expr}
-use Rattle.np_syntax.specs.ExprText.{IsExpr}
-use Rattle.np_syntax.specs.Text.{marked}
+use Rattle.np_words.specs.ExprForm.{expr}
+use Rattle.np_words.specs.ExprText.{IsExpr}
+use Rattle.np_words.specs.Text.{marked}
 use Rattle.np_syntax.proofs.ConditionKinds.{GoodAtom}
 use Rattle.np_syntax.proofs.ConditionPlaced.{placed_atom}
 use Rattle.np_syntax.proofs.EffectKinds.{alone_made, called_made, GoodTarget, IsAlone, target_is, nothing_made, and_made, add_made, delete_made, increase_made, decrease_made, GoodChange, IsDeleted, FromDecrease, FromIncrease, FromNot, FromAnd, enclosed_is}
 use Rattle.np_syntax.proofs.EffectReads.{no_made, none_is}
 use Rattle.np_syntax.proofs.EffectTexts.{text_nothing, text_and, text_add, text_delete, text_increase, text_decrease, opens}
-use Rattle.np_syntax.proofs.ExprPlaced.{placed_last, placed_expr}
-use Rattle.np_syntax.proofs.ExprPlaced as exprs
-use Rattle.np_syntax.proofs.ExprTexts.{tail_of}
-use Rattle.np_syntax.proofs.ReadingWords.{placed_name}
+use Rattle.np_words.proofs.ExprPlaced.{placed_last, placed_expr}
+use Rattle.np_words.proofs.ExprPlaced as exprs
+use Rattle.np_words.proofs.ExprTexts.{tail_of}
+use Rattle.np_words.proofs.ReadingWords.{placed_name}
 
 abbrev pub marks : Effect → Marking
 marks = printed.effect marked

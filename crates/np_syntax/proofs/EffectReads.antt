@@ -13,31 +13,31 @@ use Rattle.np_read.proofs.GoodParts.{good_row}
 use Rattle.np_read.proofs.EachRows.{reads_again, reads_each_row}
 use Rattle.np_read.proofs.PlacedParts.{reads_either_made, made_refuses, after_refuses, expect_avoids, either_avoids}
 use Rattle.np_read.proofs.Spelled.{Reads, Avoids, Made, SamePair, reads_pure, reads_expect, reads_either, reads_same, reads_both, reads_made, reads_after, reads_before}
-use Rattle.np_syntax.specs.declared.word.Word.{Word}
-use Rattle.np_syntax.specs.declared.word.Ident.{Ident}
-use Rattle.np_syntax.specs.declared.expr.Expr.{Expr}
+use Rattle.np_words.specs.declared.word.Word.{Word}
+use Rattle.np_words.specs.declared.word.Ident.{Ident}
+use Rattle.np_words.specs.declared.expr.Expr.{Expr}
 use Rattle.np_syntax.specs.declared.effect.Effect.{Effect, out-Effect}
 use Rattle.np_syntax.specs.declared.effect.Effect.TheVariants as e
-use Rattle.np_syntax.specs.Bare.{bare_word, bare_ident}
+use Rattle.np_words.specs.Bare.{bare_word, bare_ident}
 use Rattle.np_syntax.specs.ConditionForm.{atom}
 use Rattle.np_syntax.specs.EffectForm.{Target, bare_target, called_target, target, change, added, decreased, from_decrease, increased, from_increase, deleted, from_not, all_of, from_and, in_bracket, no_parts, effect}
 use Rattle.np_syntax.specs.EffectText.{IsEffectOf, IsEffect, bare_effect}
 use Rattle.np_syntax.specs.EffectText as printed
-use Rattle.np_syntax.specs.ExprForm.{expr}
-use Rattle.np_syntax.specs.ExprText.{IsExpr, bare_expr}
-use Rattle.np_syntax.specs.ReadingForm.{name, name_of}
-use Rattle.np_syntax.specs.Text.{spelled}
-use Rattle.np_syntax.specs.Written.{is_small_name, is_free_name}
+use Rattle.np_words.specs.ExprForm.{expr}
+use Rattle.np_words.specs.ExprText.{IsExpr, bare_expr}
+use Rattle.np_words.specs.ReadingForm.{name, name_of}
+use Rattle.np_words.specs.Text.{spelled}
+use Rattle.np_words.specs.Written.{is_small_name, is_free_name}
 use Rattle.np_syntax.proofs.ConditionKinds.{GoodAtom}
 use Rattle.np_syntax.proofs.ConditionReads.{SameAtom, reads_atom, atom_refuses, not_reserved, and_reserved}
 use Rattle.np_syntax.proofs.EffectKinds.{alone_made, called_made, GoodTarget, IsAlone, target_is, is_target, nothing_made, and_made, add_made, delete_made, increase_made, decrease_made, GoodChange, IsDeleted, FromDecrease, FromIncrease, FromNot, FromAnd, enclosed_is, is_enclosed}
 use Rattle.np_syntax.proofs.EffectStarts.{starting_bare_target, starting_added, starting_from_decrease, starting_from_increase, starting_from_not, starting_from_and, starting_effect, good_no_parts}
 use Rattle.np_syntax.proofs.EffectTexts.{text_nothing, text_and, text_add, text_delete, text_increase, text_decrease, opens, bare_and, bare_add, bare_delete, bare_increase, bare_decrease}
-use Rattle.np_syntax.proofs.ExprReads.{SameExpr, SameIdents, reads_last, expr_ends, reads_expr}
-use Rattle.np_syntax.proofs.ExprReads as exprs
-use Rattle.np_syntax.proofs.ExprStarts.{starting_expr}
-use Rattle.np_syntax.proofs.ExprTexts.{tail_of}
-use Rattle.np_syntax.proofs.ReadingWords.{SameWord, reads_name, name_avoids}
+use Rattle.np_words.proofs.ExprReads.{SameExpr, SameIdents, reads_last, expr_ends, reads_expr}
+use Rattle.np_words.proofs.ExprReads as exprs
+use Rattle.np_words.proofs.ExprStarts.{starting_expr}
+use Rattle.np_words.proofs.ExprTexts.{tail_of}
+use Rattle.np_words.proofs.ReadingWords.{SameWord, reads_name, name_avoids}
 
 -- the same but for places
 abbrev pub SameEffect : Effect → Effect → Type 0

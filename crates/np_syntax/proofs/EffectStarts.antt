@@ -7,12 +7,12 @@ use Rattle.np_read.proofs.GoodParts.{starts_expect, starts_either, starts_after,
 use Rattle.np_syntax.specs.declared.effect.Effect.{Effect}
 use Rattle.np_syntax.specs.ConditionForm.{atom}
 use Rattle.np_syntax.specs.EffectForm.{bare_target, called_target, target, change, added, decreased, from_decrease, increased, from_increase, deleted, from_not, all_of, from_and, in_bracket, no_parts, effect, parts}
-use Rattle.np_syntax.specs.ExprForm.{expr, last}
-use Rattle.np_syntax.specs.ReadingForm.{name}
+use Rattle.np_words.specs.ExprForm.{expr, last}
+use Rattle.np_words.specs.ReadingForm.{name}
 use Rattle.np_syntax.proofs.ConditionStarts.{starting_atom}
 use Rattle.np_syntax.proofs.EffectKinds.{alone_made, called_made, nothing_made, and_made, add_made, delete_made, increase_made, decrease_made}
-use Rattle.np_syntax.proofs.ExprStarts.{closes, starting_expr, starting_last}
-use Rattle.np_syntax.proofs.ReadingWords.{starting_name}
+use Rattle.np_words.proofs.ExprStarts.{closes, starting_expr, starting_last}
+use Rattle.np_words.proofs.ReadingWords.{starting_name}
 
 pub starting_bare_target : Starting bare_target
 unfolding bare_target

@@ -3,19 +3,19 @@ use Rattle.std.proofs.Common.{◌≡◌, Bool, List, map, sym, ap, subst, ◌∙
 use Rattle.np_lex.specs.declared.token.Place.{Place}
 use Rattle.np_lex.specs.Tokens.{Lexeme}
 use Rattle.np_read.specs.Marks.{each}
-use Rattle.np_syntax.specs.declared.word.Word.{Word}
-use Rattle.np_syntax.specs.declared.word.Ident.{Ident}
-use Rattle.np_syntax.specs.declared.expr.Expr.{Expr}
+use Rattle.np_words.specs.declared.word.Word.{Word}
+use Rattle.np_words.specs.declared.word.Ident.{Ident}
+use Rattle.np_words.specs.declared.expr.Expr.{Expr}
 use Rattle.np_syntax.specs.declared.effect.Effect.{Effect, out-Effect}
 use Rattle.np_syntax.specs.declared.effect.Effect.TheFolds.{fold-Effect, fold-roll-Effect}
 use Rattle.np_syntax.specs.declared.effect.Effect.TheOpen.{Effect-F}
 use Rattle.np_syntax.specs.declared.effect.Effect.TheVariants as e
 use Rattle.np_syntax.specs.declared.effect.Effect.TheViews.{roll-Effect, roll-out-Effect}
-use Rattle.np_syntax.specs.Bare.{bare_word, bare_ident}
-use Rattle.np_syntax.specs.ExprText.{bare_expr}
+use Rattle.np_words.specs.Bare.{bare_word, bare_ident}
+use Rattle.np_words.specs.ExprText.{bare_expr}
 use Rattle.np_syntax.specs.EffectText.{change_text, effect_step, effect, bare_step, bare_effect}
-use Rattle.np_syntax.specs.Text.{Printer, left, right, fixed_name, call}
-use Rattle.np_syntax.proofs.ExprTexts.{tail_of, each_map}
+use Rattle.np_words.specs.Text.{Printer, left, right, fixed_name, call}
+use Rattle.np_words.proofs.ExprTexts.{tail_of, each_map}
 
 module _ {T : Type 0} (token : List Place → Lexeme → T) where
   -- by its level

@@ -12,8 +12,8 @@ use Rattle.np_read.specs.PlacedReaders.{place_if, either_by}
 use Rattle.np_read.specs.Takes.{TakesAt}
 use Rattle.np_read.proofs.PlacedLexing.{first_by, second_by, place_yes, place_no}
 use Rattle.np_syntax.specs.declared.domain.DomainSection.{DomainSection}
-use Rattle.np_syntax.specs.declared.word.ListKind.TheVariants.{Names}
-use Rattle.np_syntax.specs.ReadingForm.{requirement}
+use Rattle.np_words.specs.declared.word.ListKind.TheVariants.{Names}
+use Rattle.np_words.specs.ReadingForm.{requirement}
 use Rattle.np_syntax.specs.DomainForm.{typed_list, declared, functions}
 use Rattle.np_syntax.specs.SectionForm.{from_action, from_functions, from_predicates, from_constants, from_types, from_requirements}
 use Rattle.np_syntax.specs.ActionForm.{action_condition, action_effect}

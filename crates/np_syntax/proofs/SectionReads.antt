@@ -18,20 +18,20 @@ use Rattle.np_syntax.specs.declared.domain.Domain.{Domain}
 use Rattle.np_syntax.specs.declared.domain.Declared.{Declared}
 use Rattle.np_syntax.specs.declared.domain.DomainSection.{DomainSection}
 use Rattle.np_syntax.specs.declared.domain.DomainSection.TheVariants as s
-use Rattle.np_syntax.specs.declared.word.Word.{Word}
-use Rattle.np_syntax.specs.declared.word.Group.{Group}
-use Rattle.np_syntax.specs.declared.word.ListKind.TheVariants.{Names, Variables}
-use Rattle.np_syntax.specs.Bare.{nowhere, bare_word, bare_groups}
+use Rattle.np_words.specs.declared.word.Word.{Word}
+use Rattle.np_words.specs.declared.word.Group.{Group}
+use Rattle.np_words.specs.declared.word.ListKind.TheVariants.{Names, Variables}
+use Rattle.np_words.specs.Bare.{nowhere, bare_word, bare_groups}
 use Rattle.np_syntax.specs.DomainText.{IsDeclared, IsFunction, bare_declared}
 use Rattle.np_syntax.specs.SectionText.{IfGiven, section_inside, IsSection, IsDomainWith, bare_section, bare_domain_with}
 use Rattle.np_syntax.specs.SectionText as section_text
-use Rattle.np_syntax.specs.Text.{Printer, spelled, marked}
-use Rattle.np_syntax.specs.Text as text
-use Rattle.np_syntax.specs.Written.{IsWord, IsName, AreGroups}
-use Rattle.np_syntax.specs.ReadingForm.{requirement}
+use Rattle.np_words.specs.Text.{Printer, spelled, marked}
+use Rattle.np_words.specs.Text as text
+use Rattle.np_words.specs.Written.{IsWord, IsName, AreGroups}
+use Rattle.np_words.specs.ReadingForm.{requirement}
 use Rattle.np_syntax.specs.DomainForm.{typed_list, declared, functions}
 use Rattle.np_syntax.specs.SectionForm.{from_effect, from_precondition, from_parameters, from_action, from_functions, from_predicates, from_constants, from_types, from_requirements, section, domain_with}
-use Rattle.np_syntax.proofs.ReadingWords.{SameWord, starting_requirement, reads_name, placed_name, reads_requirement, placed_requirement, requirement_avoids}
+use Rattle.np_words.proofs.ReadingWords.{SameWord, starting_requirement, reads_name, placed_name, reads_requirement, placed_requirement, requirement_avoids}
 use Rattle.np_syntax.proofs.TypedLists.{reads_typed_list, placed_typed_list}
 use Rattle.np_syntax.proofs.Declarations.{starting_declared, reads_declared, placed_declared, declared_avoids, reads_functions, placed_functions}
 use Rattle.np_syntax.proofs.Givens.{print_both, GoodGiven, SameGiven, reads_given, placed_given}

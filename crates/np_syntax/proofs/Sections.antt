@@ -20,18 +20,18 @@ use Rattle.np_syntax.specs.declared.domain.Domain.{Domain}
 use Rattle.np_syntax.specs.declared.domain.Declared.{Declared}
 use Rattle.np_syntax.specs.declared.domain.DomainSection.{DomainSection}
 use Rattle.np_syntax.specs.declared.domain.DomainSection.TheVariants as s
-use Rattle.np_syntax.specs.declared.word.Word.{Word}
-use Rattle.np_syntax.specs.declared.word.Group.{Group}
-use Rattle.np_syntax.specs.declared.word.ListKind.TheVariants.{Names, Variables}
-use Rattle.np_syntax.specs.Bare.{nowhere}
+use Rattle.np_words.specs.declared.word.Word.{Word}
+use Rattle.np_words.specs.declared.word.Group.{Group}
+use Rattle.np_words.specs.declared.word.ListKind.TheVariants.{Names, Variables}
+use Rattle.np_words.specs.Bare.{nowhere}
 use Rattle.np_syntax.specs.SectionText.{IfGiven, action_parts, section_inside, IsSection, bare_section}
 use Rattle.np_syntax.specs.SectionText as section_text
-use Rattle.np_syntax.specs.Text.{spelled, marked, keyword_lexeme}
-use Rattle.np_syntax.specs.Written.{AreGroups}
-use Rattle.np_syntax.specs.ReadingForm.{name, requirement}
+use Rattle.np_words.specs.Text.{spelled, marked, keyword_lexeme}
+use Rattle.np_words.specs.Written.{AreGroups}
+use Rattle.np_words.specs.ReadingForm.{name, requirement}
 use Rattle.np_syntax.specs.DomainForm.{typed_list, declared, functions}
 use Rattle.np_syntax.specs.SectionForm.{parameters, from_effect, from_precondition, from_parameters, from_action, from_functions, from_predicates, from_constants, from_types, from_requirements, section, domain_with}
-use Rattle.np_syntax.proofs.ReadingWords.{starting_name, starting_requirement}
+use Rattle.np_words.proofs.ReadingWords.{starting_name, starting_requirement}
 use Rattle.np_syntax.proofs.TypedLists.{SameGroups, good_typed_list, reads_typed_list, placed_typed_list}
 use Rattle.np_syntax.proofs.Declarations.{starting_declared, good_functions, other_lexeme, after_left_avoids}
 use Rattle.np_syntax.proofs.Givens.{starts_given, given_nothing, given_avoids}

@@ -12,8 +12,8 @@ use Rattle.np_read.proofs.GoodParts.{good_made}
 use Rattle.np_read.proofs.Marked.{Marked, Placed}
 use Rattle.np_read.proofs.Spelled.{Spelled, Back, Reads, then_at, then_find}
 use Rattle.np_syntax.specs.ConditionForm.{place_in}
-use Rattle.np_syntax.specs.Text.{marked}
-use Rattle.np_syntax.proofs.ExprBegins.{Begins}
+use Rattle.np_words.specs.Text.{marked}
+use Rattle.np_words.proofs.ExprBegins.{Begins}
 
 module _ {A B : Type 0} (make : A → Place → B) (p : Reader A) where
   -- the value with the place of its first token

@@ -13,23 +13,23 @@ use Rattle.np_read.proofs.Good.{Starting, Good}
 use Rattle.np_read.proofs.GoodParts.{good_made}
 use Rattle.np_read.proofs.Spelled.{Reads, Avoids, Made, AllSame, reads_made, reads_same}
 use Rattle.np_read.proofs.Marked.{Placed, placed_made, placed_same}
-use Rattle.np_syntax.specs.declared.word.Word.{Word}
-use Rattle.np_syntax.specs.declared.word.Group.{Group}
-use Rattle.np_syntax.specs.declared.word.ListKind.{ListKind}
-use Rattle.np_syntax.specs.declared.word.ListKind.TheVariants.{Names, Variables}
+use Rattle.np_words.specs.declared.word.Word.{Word}
+use Rattle.np_words.specs.declared.word.Group.{Group}
+use Rattle.np_words.specs.declared.word.ListKind.{ListKind}
+use Rattle.np_words.specs.declared.word.ListKind.TheVariants.{Names, Variables}
 use Rattle.np_syntax.specs.declared.read.lists.Part.{Part}
-use Rattle.np_syntax.specs.Bare.{bare_word, bare_group, bare_groups}
-use Rattle.np_syntax.specs.Written.{IsName, IsListWord, IsOf, IsGroup, IsTyped, AreTyped, AreGroups}
-use Rattle.np_syntax.specs.Text.{Printer, minus, operator_lexeme, spelled, marked}
-use Rattle.np_syntax.specs.Text as text
-use Rattle.np_syntax.specs.ReadingForm.{name}
-use Rattle.np_syntax.specs.TailedRows.{tailed_row}
+use Rattle.np_words.specs.Bare.{bare_word, bare_group, bare_groups}
+use Rattle.np_words.specs.Written.{IsName, IsListWord, IsOf, IsGroup, IsTyped, AreTyped, AreGroups}
+use Rattle.np_words.specs.Text.{Printer, minus, operator_lexeme, spelled, marked}
+use Rattle.np_words.specs.Text as text
+use Rattle.np_words.specs.ReadingForm.{name}
+use Rattle.np_words.specs.TailedRows.{tailed_row}
 use Rattle.np_syntax.specs.DomainForm.{list_word, with_word, all_groups, groups_after, grouped, typed_list}
-use Rattle.np_syntax.proofs.ReadingWords.{SameWord, starting_name, reads_name, placed_name, name_avoids, starting_variable, reads_variable, placed_variable, variable_avoids}
-use Rattle.np_syntax.proofs.TailedGood.{good_rest}
-use Rattle.np_syntax.proofs.TailedKept.{IfTail, GoodEntry, print_entry, print_row}
-use Rattle.np_syntax.proofs.TailedPlaced.{placed_tailed}
-use Rattle.np_syntax.proofs.TailedSpelled.{SameTail, SameEntry, reads_tailed}
+use Rattle.np_words.proofs.ReadingWords.{SameWord, starting_name, reads_name, placed_name, name_avoids, starting_variable, reads_variable, placed_variable, variable_avoids}
+use Rattle.np_words.proofs.TailedGood.{good_rest}
+use Rattle.np_words.proofs.TailedKept.{IfTail, GoodEntry, print_entry, print_row}
+use Rattle.np_words.proofs.TailedPlaced.{placed_tailed}
+use Rattle.np_words.proofs.TailedSpelled.{SameTail, SameEntry, reads_tailed}
 
 abbrev Entry : Type 0
 Entry = Word × Option Word

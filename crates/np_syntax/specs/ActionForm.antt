@@ -9,13 +9,13 @@ use Rattle.np_syntax.specs.declared.domain.Domain.{Domain}
 use Rattle.np_syntax.specs.declared.domain.DomainSection.{DomainSection}
 use Rattle.np_syntax.specs.declared.domain.DomainSection.TheVariants as s
 use Rattle.np_syntax.specs.declared.read.actions.TheConstants.{DEPTH}
-use Rattle.np_syntax.specs.declared.word.Group.{Group}
+use Rattle.np_words.specs.declared.word.Group.{Group}
 use Rattle.np_syntax.specs.ConditionForm.{condition}
 use Rattle.np_syntax.specs.EffectForm.{effect}
-use Rattle.np_syntax.specs.ReadingForm.{name}
+use Rattle.np_words.specs.ReadingForm.{name}
 use Rattle.np_syntax.specs.SectionForm.{parameters, section, domain_with}
-use Rattle.np_syntax.specs.TailedRows.{tail_or_none}
-use Rattle.np_syntax.specs.Text.{keyword_lexeme}
+use Rattle.np_words.specs.TailedRows.{tail_or_none}
+use Rattle.np_words.specs.Text.{keyword_lexeme}
 
 -- so many brackets may be opened one inside the other within that of a condition or an effect of an action
 unfoldable pub depth : ℕ

@@ -6,19 +6,19 @@ use Rattle.np_lex.specs.Tokens.{Lexeme, Item, left, right, named}
 use Rattle.np_read.specs.ItemReaders.{Reader, pure, expect, either, after, before, both, made, row}
 use Rattle.np_read.specs.PlacedReaders.{token_by, either_by}
 use Rattle.np_read.specs.Same.{same_kind}
-use Rattle.np_syntax.specs.declared.word.Word.{Word}
-use Rattle.np_syntax.specs.declared.word.Ident.{Ident}
-use Rattle.np_syntax.specs.declared.expr.Expr.{Expr}
+use Rattle.np_words.specs.declared.word.Word.{Word}
+use Rattle.np_words.specs.declared.word.Ident.{Ident}
+use Rattle.np_words.specs.declared.expr.Expr.{Expr}
 use Rattle.np_syntax.specs.declared.condition.Op.{Op}
 use Rattle.np_syntax.specs.declared.condition.Op.TheVariants.{Less, Greater, AtMost, AtLeast}
 use Rattle.np_syntax.specs.declared.condition.Side.{Side}
 use Rattle.np_syntax.specs.declared.condition.Side.TheVariants as side
 use Rattle.np_syntax.specs.declared.condition.Condition.{Condition}
 use Rattle.np_syntax.specs.declared.condition.Condition.TheVariants as c
-use Rattle.np_syntax.specs.Bare.{nowhere}
-use Rattle.np_syntax.specs.ExprForm.{expr, last}
-use Rattle.np_syntax.specs.ReadingForm.{name, identifier, variable_of}
-use Rattle.np_syntax.specs.Text.{operator_lexeme}
+use Rattle.np_words.specs.Bare.{nowhere}
+use Rattle.np_words.specs.ExprForm.{expr, last}
+use Rattle.np_words.specs.ReadingForm.{name, identifier, variable_of}
+use Rattle.np_words.specs.Text.{operator_lexeme}
 
 -- ---- comparisons
 

@@ -3,7 +3,7 @@ use Rattle.std.specs.Prelude.{ℕ, zero, suc, List, [], ◌∷◌, map, All, cod
 use Rattle.np_lex.specs.declared.token.Place.{Place}
 use Rattle.np_lex.specs.Tokens.{Lexeme}
 use Rattle.np_read.specs.Marks.{each}
-use Rattle.np_syntax.specs.declared.expr.Expr.{Expr}
+use Rattle.np_words.specs.declared.expr.Expr.{Expr}
 use Rattle.np_syntax.specs.declared.condition.Op.{Op}
 use Rattle.np_syntax.specs.declared.condition.Op.TheVariants.{Less, Greater, AtMost, AtLeast}
 use Rattle.np_syntax.specs.declared.condition.Side.{Side}
@@ -12,10 +12,10 @@ use Rattle.np_syntax.specs.declared.condition.Condition.{Condition, out-Conditio
 use Rattle.np_syntax.specs.declared.condition.Condition.TheFolds.{fold-Condition}
 use Rattle.np_syntax.specs.declared.condition.Condition.TheOpen.{Condition-F}
 use Rattle.np_syntax.specs.declared.condition.Condition.TheVariants as c
-use Rattle.np_syntax.specs.Bare.{nowhere, bare_word, bare_ident}
-use Rattle.np_syntax.specs.ExprText.{expr, expr_at, IsExpr, bare_expr}
-use Rattle.np_syntax.specs.Text.{Printer, left, right, fixed_name, operator, variable, identifier, call}
-use Rattle.np_syntax.specs.Written.{IsWord, IsIdent, IsCall}
+use Rattle.np_words.specs.Bare.{nowhere, bare_word, bare_ident}
+use Rattle.np_words.specs.ExprText.{expr, expr_at, IsExpr, bare_expr}
+use Rattle.np_words.specs.Text.{Printer, left, right, fixed_name, operator, variable, identifier, call}
+use Rattle.np_words.specs.Written.{IsWord, IsIdent, IsCall}
 
 -- ---- the text
 

@@ -3,14 +3,14 @@ use Rattle.std.specs.Prelude.{Bool, true, false, List, [], ◌∷◌, ◌++◌, 
 use Rattle.np_lex.specs.Tokens.{Lexeme, left, named}
 use Rattle.np_read.specs.ItemReaders.{Reader, expect, after, both, made}
 use Rattle.np_syntax.specs.declared.domain.Declared.{Declared}
-use Rattle.np_syntax.specs.declared.word.Word.{Word}
-use Rattle.np_syntax.specs.declared.word.Group.{Group}
-use Rattle.np_syntax.specs.declared.word.ListKind.{ListKind}
-use Rattle.np_syntax.specs.declared.word.ListKind.TheVariants.{Names, Variables}
+use Rattle.np_words.specs.declared.word.Word.{Word}
+use Rattle.np_words.specs.declared.word.Group.{Group}
+use Rattle.np_words.specs.declared.word.ListKind.{ListKind}
+use Rattle.np_words.specs.declared.word.ListKind.TheVariants.{Names, Variables}
 use Rattle.np_syntax.specs.declared.read.lists.Part.{Part}
-use Rattle.np_syntax.specs.ReadingForm.{name, variable}
-use Rattle.np_syntax.specs.TailedRows.{Tailed, tailed_row}
-use Rattle.np_syntax.specs.Text.{minus}
+use Rattle.np_words.specs.ReadingForm.{name, variable}
+use Rattle.np_words.specs.TailedRows.{Tailed, tailed_row}
+use Rattle.np_words.specs.Text.{minus}
 
 -- ---- typed lists
 

@@ -3,10 +3,10 @@ use Rattle.std.specs.Prelude.{Bool, true, false, List, codes}
 use Rattle.np_lex.specs.declared.token.Place.{Place}
 use Rattle.np_lex.specs.Tokens.{Lexeme}
 use Rattle.np_syntax.specs.declared.domain.Declared.{Declared}
-use Rattle.np_syntax.specs.declared.word.ListKind.TheVariants.{Variables}
-use Rattle.np_syntax.specs.Bare.{bare_word, bare_groups}
-use Rattle.np_syntax.specs.Text.{Printer, left, operator, fixed_name, name, groups}
-use Rattle.np_syntax.specs.Written.{IsName, AreGroups}
+use Rattle.np_words.specs.declared.word.ListKind.TheVariants.{Variables}
+use Rattle.np_words.specs.Bare.{bare_word, bare_groups}
+use Rattle.np_words.specs.Text.{Printer, left, operator, fixed_name, name, groups}
+use Rattle.np_words.specs.Written.{IsName, AreGroups}
 
 -- ---- declarations
 

@@ -9,8 +9,8 @@ use Rattle.np_syntax.specs.ActionForm.{depth}
 use Rattle.np_syntax.specs.ConditionText.{condition, IsCondition, bare_condition}
 use Rattle.np_syntax.specs.EffectText.{effect, IsEffect, bare_effect}
 use Rattle.np_syntax.specs.SectionText.{domain_with, IsDomainWith, bare_domain_with}
-use Rattle.np_syntax.specs.Text.{spelled, marked}
-use Rattle.np_syntax.specs.Texts.{IsSpelled, KeepsPlaces}
+use Rattle.np_words.specs.Text.{spelled, marked}
+use Rattle.np_words.specs.Texts.{IsSpelled, KeepsPlaces}
 
 -- brackets nest at most MOST_LEVELS deep, which is 256: the bracket of an action's condition or effect is the third level, so that
 -- it takes up one of 254 levels

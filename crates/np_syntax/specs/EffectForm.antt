@@ -2,14 +2,14 @@
 use Rattle.std.specs.Prelude.{ℕ, zero, suc, Bool, true, false, List, [], codes}
 use Rattle.np_lex.specs.Tokens.{left, right, named}
 use Rattle.np_read.specs.ItemReaders.{Reader, pure, expect, either, after, both, made, row}
-use Rattle.np_syntax.specs.declared.word.Word.{Word}
-use Rattle.np_syntax.specs.declared.word.Ident.{Ident}
-use Rattle.np_syntax.specs.declared.expr.Expr.{Expr}
+use Rattle.np_words.specs.declared.word.Word.{Word}
+use Rattle.np_words.specs.declared.word.Ident.{Ident}
+use Rattle.np_words.specs.declared.expr.Expr.{Expr}
 use Rattle.np_syntax.specs.declared.effect.Effect.{Effect}
 use Rattle.np_syntax.specs.declared.effect.Effect.TheVariants as e
 use Rattle.np_syntax.specs.ConditionForm.{atom, closed}
-use Rattle.np_syntax.specs.ExprForm.{expr, last}
-use Rattle.np_syntax.specs.ReadingForm.{name}
+use Rattle.np_words.specs.ExprForm.{expr, last}
+use Rattle.np_words.specs.ReadingForm.{name}
 
 -- what an effect changes: a name, its arguments, and whether the name is alone
 abbrev pub Target : Type 0

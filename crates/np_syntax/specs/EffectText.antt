@@ -3,18 +3,18 @@ use Rattle.std.specs.Prelude.{◌≡◌, ℕ, zero, suc, Bool, true, false, List
 use Rattle.np_lex.specs.declared.token.Place.{Place}
 use Rattle.np_lex.specs.Tokens.{Lexeme}
 use Rattle.np_read.specs.Marks.{each}
-use Rattle.np_syntax.specs.declared.word.Word.{Word}
-use Rattle.np_syntax.specs.declared.word.Ident.{Ident}
-use Rattle.np_syntax.specs.declared.expr.Expr.{Expr}
+use Rattle.np_words.specs.declared.word.Word.{Word}
+use Rattle.np_words.specs.declared.word.Ident.{Ident}
+use Rattle.np_words.specs.declared.expr.Expr.{Expr}
 use Rattle.np_syntax.specs.declared.effect.Effect.{Effect, out-Effect}
 use Rattle.np_syntax.specs.declared.effect.Effect.TheFolds.{fold-Effect}
 use Rattle.np_syntax.specs.declared.effect.Effect.TheOpen.{Effect-F}
 use Rattle.np_syntax.specs.declared.effect.Effect.TheVariants as e
-use Rattle.np_syntax.specs.Bare.{bare_word, bare_ident}
+use Rattle.np_words.specs.Bare.{bare_word, bare_ident}
 use Rattle.np_syntax.specs.ConditionText.{InBracket}
-use Rattle.np_syntax.specs.ExprText.{expr, IsExpr, bare_expr}
-use Rattle.np_syntax.specs.Text.{Printer, left, right, fixed_name, name, call}
-use Rattle.np_syntax.specs.Written.{IsName, IsCall}
+use Rattle.np_words.specs.ExprText.{expr, IsExpr, bare_expr}
+use Rattle.np_words.specs.Text.{Printer, left, right, fixed_name, name, call}
+use Rattle.np_words.specs.Written.{IsName, IsCall}
 
 -- ---- the text
 

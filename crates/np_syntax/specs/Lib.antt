@@ -1,5 +1,4 @@
 pub mod ActionForm
-pub mod Bare
 pub mod ConditionForm
 pub mod ConditionText
 pub mod DomainForm
@@ -7,14 +6,5 @@ pub mod DomainText
 pub mod Domains
 pub mod EffectForm
 pub mod EffectText
-pub mod ExprForm
-pub mod ExprText
-pub mod Numbers
-pub mod ReadingForm
 pub mod SectionForm
 pub mod SectionText
-pub mod TailedRows
-pub mod Text
-pub mod Texts
-pub mod Wide
-pub mod Written

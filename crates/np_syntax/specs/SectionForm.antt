@@ -8,11 +8,11 @@ use Rattle.np_syntax.specs.declared.effect.Effect.{Effect}
 use Rattle.np_syntax.specs.declared.domain.Domain.{Domain}
 use Rattle.np_syntax.specs.declared.domain.DomainSection.{DomainSection}
 use Rattle.np_syntax.specs.declared.domain.DomainSection.TheVariants as s
-use Rattle.np_syntax.specs.declared.word.Group.{Group}
-use Rattle.np_syntax.specs.declared.word.ListKind.TheVariants.{Names, Variables}
+use Rattle.np_words.specs.declared.word.Group.{Group}
+use Rattle.np_words.specs.declared.word.ListKind.TheVariants.{Names, Variables}
 use Rattle.np_syntax.specs.DomainForm.{typed_list, declared, functions}
-use Rattle.np_syntax.specs.ReadingForm.{name, requirement}
-use Rattle.np_syntax.specs.Text.{keyword_lexeme}
+use Rattle.np_words.specs.ReadingForm.{name, requirement}
+use Rattle.np_words.specs.Text.{keyword_lexeme}
 
 -- what follows this lexeme where it comes next, and then the rest
 abbrev pub given : {A B : Type 0} → Lexeme → Reader A → Reader B → Reader (Option A × B)

@@ -9,12 +9,12 @@ use Rattle.np_syntax.specs.declared.effect.Effect.{Effect}
 use Rattle.np_syntax.specs.declared.domain.Domain.{Domain}
 use Rattle.np_syntax.specs.declared.domain.DomainSection.{DomainSection}
 use Rattle.np_syntax.specs.declared.domain.DomainSection.TheVariants as s
-use Rattle.np_syntax.specs.declared.word.Group.{Group}
-use Rattle.np_syntax.specs.declared.word.ListKind.TheVariants.{Names, Variables}
-use Rattle.np_syntax.specs.Bare.{nowhere, bare_word, bare_groups}
+use Rattle.np_words.specs.declared.word.Group.{Group}
+use Rattle.np_words.specs.declared.word.ListKind.TheVariants.{Names, Variables}
+use Rattle.np_words.specs.Bare.{nowhere, bare_word, bare_groups}
 use Rattle.np_syntax.specs.DomainText.{declared, function, IsDeclared, IsFunction, bare_declared, bare_function}
-use Rattle.np_syntax.specs.Text.{Printer, left, right, fixed_name, keyword, keyword_at, name, requirement, groups}
-use Rattle.np_syntax.specs.Written.{IsWord, IsName, AreGroups}
+use Rattle.np_words.specs.Text.{Printer, left, right, fixed_name, keyword, keyword_at, name, requirement, groups}
+use Rattle.np_words.specs.Written.{IsWord, IsName, AreGroups}
 
 -- what may be missing
 abbrev pub IfGiven : {A : Type 0} → (A → Type 0) → Option A → Type 0

@@ -1,8 +1,7 @@
 //! Conditions.
 
-use crate::expr::Expr;
-use crate::word::{Ident, Word};
 use np_lex::Place;
+use np_words::{Expr, Ident, Word};
 use sqlite_items::Items;
 
 /// How two numbers compare.

@@ -2,8 +2,8 @@
 
 use crate::condition::Condition;
 use crate::effect::Effect;
-use crate::word::{Group, Word};
 use np_lex::Place;
+use np_words::{Group, Word};
 use sqlite_items::Items;
 
 /// A domain: `(define (domain name) section ..)`.

@@ -1,7 +1,6 @@
 //! Effects.
 
-use crate::expr::Expr;
-use crate::word::{Ident, Word};
+use np_words::{Expr, Ident, Word};
 use sqlite_items::Items;
 
 /// An effect. The flag of a change says that its target is a name alone, and not in brackets.

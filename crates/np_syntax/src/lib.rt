@@ -4,16 +4,10 @@
 mod condition;
 mod domain;
 mod effect;
-mod expr;
-mod fault;
 pub mod read;
-mod value;
-mod word;
 
 pub use condition::{Condition, Op, Side};
 pub use domain::{Declared, Domain, DomainSection};
 pub use effect::Effect;
-pub use expr::Expr;
-pub use fault::ReadFault;
+pub use np_words::{Decimal, Expr, Group, Ident, ListKind, ReadFault, Word};
 pub use read::read_domain;
-pub use word::{Decimal, Group, Ident, ListKind, Word};

@@ -4,36 +4,31 @@ mod actions;
 mod conditions;
 mod declarations;
 mod effects;
-mod exprs;
 mod lists;
-mod numbers;
 mod sections;
-mod wide;
-mod words;
 
 ghost use Rattle.std.specs.Prelude.{◌≡◌, false, IfOk, IsErrOf};
 ghost use Rattle.np_lex.specs.Tokens.{items_of};
 ghost use Rattle.np_syntax.specs.Domains.{IsDomain, domain_text, bare_domain, Spells, IsPlaced};
-ghost use Rattle.np_syntax.specs.Texts.{is_memory};
-ghost use Rattle.np_syntax.specs.Wide.{IsSyntaxFault, IsWideFault};
+ghost use Rattle.np_words.specs.Texts.{is_memory};
+ghost use Rattle.np_words.specs.Wide.{IsSyntaxFault, IsWideFault};
 ghost use Rattle.np_syntax.specs.declared.domain.Domain.{Domain};
-ghost use Rattle.np_syntax.specs.declared.fault.ReadFault.{ReadFault};
-ghost use Rattle.np_syntax.specs.declared.fault.ReadFault.TheVariants.{At, NumberWide};
+ghost use Rattle.np_words.specs.declared.fault.ReadFault.{ReadFault};
+ghost use Rattle.np_words.specs.declared.fault.ReadFault.TheVariants.{At, NumberWide};
 ghost use Rattle.np_lex.specs.declared.token.Place.{Place};
 
 use crate::domain::Domain;
-use crate::fault::ReadFault;
 pub use conditions::condition;
 pub use declarations::requirements;
-pub use exprs::expr;
-pub use lists::{names_to_right, typed_list};
+pub use lists::typed_list;
 use np_lex::Lexer;
 use np_read::ReadFault as Stop;
-pub use numbers::number;
+use np_words::ReadFault;
+pub use np_words::read::{
+    MOST_DIGITS, expr, fault_from, first_wide, name, names_to_right, number, requirement, settled,
+};
 use sections::whole_domain;
 use std::alloc::Global;
-pub use wide::{MOST_DIGITS, fault_from, first_wide, settled};
-pub use words::{name, requirement};
 
 /// Brackets nest at most so many levels deep.
 pub const MOST_LEVELS: u32 = 256;

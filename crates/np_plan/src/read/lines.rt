@@ -9,8 +9,8 @@ ghost use Rattle.np_plan.specs.PlanForm as form;
 use crate::plan::{PlanLine, PlanText};
 use np_lex::{Kind, Lexer};
 use np_read::{ReadFault, ends, take_token, token};
-use np_syntax::Decimal;
-use np_syntax::read::{name, names_to_right, number};
+use np_words::Decimal;
+use np_words::read::{name, names_to_right, number};
 use sqlite_items::Items;
 use std::alloc::Global;
 

@@ -11,8 +11,8 @@ use super::lines::whole_plan;
 use crate::plan::PlanText;
 use np_lex::{Lexer, Place};
 use np_read::ReadFault as Stop;
-use np_syntax::ReadFault;
-use np_syntax::read::first_wide;
+use np_words::ReadFault;
+use np_words::read::first_wide;
 use std::alloc::Global;
 
 /// The text that was read, unless a stamp has too many digits.

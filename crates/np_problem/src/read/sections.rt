@@ -9,11 +9,11 @@ ghost use Rattle.np_problem.specs.declared.problem.ProblemSection.TheVariants as
 ghost use Rattle.np_read.specs.ItemAnswers.{Gives, Stops};
 ghost use Rattle.np_read.specs.ItemReaders as readers;
 ghost use Rattle.np_syntax.specs.DomainForm as domains;
-ghost use Rattle.np_syntax.specs.ReadingForm as words;
+ghost use Rattle.np_words.specs.ReadingForm as words;
 ghost use Rattle.np_syntax.specs.declared.condition.Condition.{Condition};
-ghost use Rattle.np_syntax.specs.declared.word.Group.{Group};
-ghost use Rattle.np_syntax.specs.declared.word.ListKind.TheVariants.{Names};
-ghost use Rattle.np_syntax.specs.declared.word.Word.{Word};
+ghost use Rattle.np_words.specs.declared.word.Group.{Group};
+ghost use Rattle.np_words.specs.declared.word.ListKind.TheVariants.{Names};
+ghost use Rattle.np_words.specs.declared.word.Word.{Word};
 
 use super::facts::facts;
 use crate::problem::{Problem, ProblemSection};

@@ -7,13 +7,11 @@ ghost use Rattle.np_read.specs.ItemAnswers.{Gives};
 ghost use Rattle.np_read.specs.ItemReaders as readers;
 ghost use Rattle.np_syntax.specs.ConditionForm as form;
 
-use super::exprs::{expr, identifiers_to_right, last};
-use super::words::{identifier, name, variable};
 use crate::condition::{Condition, Op, Side};
-use crate::expr::Expr;
-use crate::word::{Ident, Word};
 use np_lex::{Kind, Lexer, is_word};
 use np_read::{ReadFault, left, right, take_kind, take_operator};
+use np_words::read::{expr, identifier, identifiers_to_right, last, name, variable};
+use np_words::{Expr, Ident, Word};
 use sqlite_items::Items;
 use std::alloc::Global;
 

@@ -3,17 +3,17 @@
 ghost use Rattle.np_lex.specs.Lexers.{items_left};
 ghost use Rattle.np_read.specs.ItemAnswers.{Gives};
 ghost use Rattle.np_read.specs.ItemReaders.{expect, both, row};
-ghost use Rattle.np_syntax.specs.TailedRows.{tail_or_none};
-ghost use Rattle.np_syntax.specs.Text.{minus};
-ghost use Rattle.np_syntax.specs.ReadingForm as words;
+ghost use Rattle.np_words.specs.TailedRows.{tail_or_none};
+ghost use Rattle.np_words.specs.Text.{minus};
+ghost use Rattle.np_words.specs.ReadingForm as words;
 ghost use Rattle.np_syntax.specs.DomainForm as form;
 
 use super::lists::typed_list;
-use super::words::{name, requirement};
 use crate::domain::Declared;
-use crate::word::{ListKind, Word};
 use np_lex::Lexer;
 use np_read::{ReadFault, left, name as this_name, take_operator};
+use np_words::read::{name, requirement};
+use np_words::{ListKind, Word};
 use sqlite_items::Items;
 use std::alloc::Global;
 

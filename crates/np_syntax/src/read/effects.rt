@@ -6,13 +6,11 @@ ghost use Rattle.np_read.specs.ItemReaders as readers;
 ghost use Rattle.np_syntax.specs.EffectForm as form;
 
 use super::conditions::atom;
-use super::exprs::last;
-use super::words::name;
 use crate::effect::Effect;
-use crate::expr::Expr;
-use crate::word::{Ident, Word};
 use np_lex::Lexer;
 use np_read::{ReadFault, left, right};
+use np_words::read::{last, name};
+use np_words::{Expr, Ident, Word};
 use sqlite_items::Items;
 use std::alloc::Global;
 

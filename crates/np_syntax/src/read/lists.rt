@@ -3,32 +3,20 @@
 ghost use Rattle.std.specs.Prelude.{◌≡◌, IfOk};
 ghost use Rattle.np_lex.specs.Lexers.{items_left};
 ghost use Rattle.np_read.specs.ItemAnswers.{Gives};
-ghost use Rattle.np_read.specs.ItemReaders.{both, row};
-ghost use Rattle.np_syntax.specs.TailedRows.{tail_or_none};
-ghost use Rattle.np_syntax.specs.Text.{minus};
-ghost use Rattle.np_syntax.specs.ReadingForm as words;
+ghost use Rattle.np_read.specs.ItemReaders.{both};
+ghost use Rattle.np_words.specs.TailedRows.{tail_or_none};
+ghost use Rattle.np_words.specs.Text.{minus};
+ghost use Rattle.np_words.specs.ReadingForm as words;
 ghost use Rattle.np_syntax.specs.DomainForm as form;
-ghost use Rattle.np_syntax.specs.declared.word.Group.{Group};
-ghost use Rattle.np_syntax.specs.declared.word.Word.{Word};
+ghost use Rattle.np_words.specs.declared.word.Group.{Group};
+ghost use Rattle.np_words.specs.declared.word.Word.{Word};
 
-use super::words::{name, variable};
-use crate::word::{Group, ListKind, Word};
 use np_lex::Lexer;
 use np_read::{ReadFault, take_operator};
+use np_words::read::{name, variable};
+use np_words::{Group, ListKind, Word};
 use sqlite_items::Items;
 use std::alloc::{AllocError, Global};
-
-/// Reads names up to a closing bracket.
-pub fn names_to_right(alloc: Global, lexer: &mut Lexer<'_>) -> Result<Items<Word>, ReadFault>
-    ensures { Gives (λ x. x) (items_left lexer.new) result (row words.name (items_left lexer.old)) }
-{
-    let mut found = Items::new(alloc);
-    'row: while !lexer.take_right() {
-        let value = name(alloc, lexer)?;
-        found.push(value)?;
-    }
-    Ok(found)
-}
 
 /// The groups that ended, and the words after them.
 #[derive(Debug, Drop)]

@@ -7,22 +7,22 @@ ghost use Rattle.np_read.specs.ItemAnswers.{Gives, Stops};
 ghost use Rattle.np_read.specs.ItemReaders as readers;
 ghost use Rattle.np_syntax.specs.ActionForm as form;
 ghost use Rattle.np_syntax.specs.DomainForm as declarations;
-ghost use Rattle.np_syntax.specs.ReadingForm as words;
+ghost use Rattle.np_words.specs.ReadingForm as words;
 ghost use Rattle.np_syntax.specs.SectionForm as sections;
 ghost use Rattle.np_syntax.specs.declared.domain.Declared.{Declared};
 ghost use Rattle.np_syntax.specs.declared.domain.DomainSection.TheVariants as section_of;
-ghost use Rattle.np_syntax.specs.declared.word.Group.{Group};
-ghost use Rattle.np_syntax.specs.declared.word.ListKind.TheVariants.{Names};
-ghost use Rattle.np_syntax.specs.declared.word.Word.{Word};
+ghost use Rattle.np_words.specs.declared.word.Group.{Group};
+ghost use Rattle.np_words.specs.declared.word.ListKind.TheVariants.{Names};
+ghost use Rattle.np_words.specs.declared.word.Word.{Word};
 
 use super::actions::action;
 use super::declarations::{functions, predicates, requirements};
 use super::lists::typed_list;
-use super::words::name;
 use crate::domain::{Domain, DomainSection};
-use crate::word::{ListKind, Word};
 use np_lex::{Kind, Lexer, Place};
 use np_read::{ReadFault, ends, left, open, right, take_token};
+use np_words::read::name;
+use np_words::{ListKind, Word};
 use sqlite_items::Items;
 use std::alloc::Global;
 

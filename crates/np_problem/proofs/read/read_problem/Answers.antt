@@ -2,7 +2,7 @@ use Rattle.std.proofs.Common.{[]}
 use Rattle.np_lex.specs.Lexers.{items_left}
 use Rattle.np_problem.specs.ProblemText.{bare_problem}
 use Rattle.np_problem.proofs.ProblemLaws.{good_problem, reads_problem, placed_problem}
-use Rattle.np_syntax.proofs.TextAnswers.{value_spelled, value_placed, value_only, value_wide, value_refused, stop_fault, stop_wide, stop_refused}
+use Rattle.np_words.proofs.TextAnswers.{value_spelled, value_placed, value_only, value_wide, value_refused, stop_fault, stop_wide, stop_refused}
 use Rattle.np_problem.proofs.read.read_problem.Goals as goal
 
 pub returns-in-Ok-clause-spelled : goal.returns-in-Ok-clause-spelled

@@ -2,7 +2,7 @@ use Rattle.std.proofs.Common.{[]}
 use Rattle.np_lex.specs.Lexers.{items_left}
 use Rattle.np_syntax.specs.Domains.{bare_domain}
 use Rattle.np_syntax.proofs.DomainLaws.{good_domain, reads_domain, placed_domain}
-use Rattle.np_syntax.proofs.TextAnswers.{value_spelled, value_placed, value_only, value_wide, value_refused, stop_fault, stop_wide, stop_refused}
+use Rattle.np_words.proofs.TextAnswers.{value_spelled, value_placed, value_only, value_wide, value_refused, stop_fault, stop_wide, stop_refused}
 use Rattle.np_syntax.proofs.read.read_domain.Goals as goal
 
 pub returns-in-Ok-clause-spelled : goal.returns-in-Ok-clause-spelled

@@ -3,11 +3,11 @@ use Rattle.std.proofs.lemmas.Result.{err_from_is_err_and}
 use Rattle.np_lex.specs.Lexers.{items_left}
 use Rattle.np_read.specs.ItemReaders.{Outcome, and_then}
 use Rattle.np_syntax.specs.declared.condition.Side.TheVariants as side
-use Rattle.np_syntax.specs.declared.expr.Expr.{Expr}
-use Rattle.np_syntax.specs.ExprForm.{expr}
+use Rattle.np_words.specs.declared.expr.Expr.{Expr}
+use Rattle.np_words.specs.ExprForm.{expr}
 use Rattle.np_syntax.specs.ConditionForm.{one_side}
 use Rattle.np_syntax.proofs.ConditionLexing.{side_variable, side_expr, side_placed}
-use Rattle.np_syntax.proofs.WordLexing.{made_stops}
+use Rattle.np_words.proofs.WordLexing.{made_stops}
 use Rattle.np_syntax.proofs.read.conditions.one_side.Goals as goal
 
 pub returns-in-Ok : goal.returns-in-Ok

@@ -4,11 +4,11 @@ use Rattle.std.proofs.lemmas.Result.{err_from_is_err_and}
 use Rattle.np_lex.specs.Lexers.{items_left}
 use Rattle.np_read.specs.ItemReaders.{expect}
 use Rattle.np_syntax.specs.declared.domain.Declared.{Declared}
-use Rattle.np_syntax.specs.Text.{minus}
+use Rattle.np_words.specs.Text.{minus}
 use Rattle.np_syntax.specs.DomainForm.{declared, number_word, numbered, mark_of, functions}
 use Rattle.np_syntax.proofs.Declarations.{starting_declared, starting_number_word, function_more}
 use Rattle.np_syntax.proofs.TypedLists.{minus_differs}
-use Rattle.np_syntax.proofs.TailedLexing.{entries_go_on, entries_stop, entries_done, entries_shorter}
+use Rattle.np_words.proofs.TailedLexing.{entries_go_on, entries_stop, entries_done, entries_shorter}
 use Rattle.np_syntax.proofs.read.declarations.functions.Goals as goal
 
 abbrev so_far : List (Declared × Bool) → List (Declared × Option (Unit {0})) → List (Declared × Bool)

@@ -1,10 +1,10 @@
 use Rattle.std.proofs.Common.{◌≡◌, ◌++◌, map, length}
 use Rattle.np_lex.specs.Lexers.{items_left}
 use Rattle.np_read.specs.ItemReaders.{expect}
-use Rattle.np_syntax.specs.TailedRows.{tailed_row}
-use Rattle.np_syntax.specs.Text.{minus}
+use Rattle.np_words.specs.TailedRows.{tailed_row}
+use Rattle.np_words.specs.Text.{minus}
 use Rattle.np_syntax.specs.DomainForm.{declared, number_word, numbered, functions}
-use Rattle.np_syntax.proofs.TailedLexing.{from_state}
+use Rattle.np_words.proofs.TailedLexing.{from_state}
 use Rattle.np_syntax.proofs.read.declarations.functions.Given as goal
 
 abbrev pub invariant-row : goal.invariant-row

@@ -3,10 +3,10 @@ use Rattle.std.proofs.lemmas.Result.{err_from_is_err_and}
 use Rattle.np_lex.specs.Lexers.{items_left}
 use Rattle.np_read.specs.ItemReaders.{Outcome, and_then, expect}
 use Rattle.np_syntax.specs.DomainForm.{number_word}
-use Rattle.np_syntax.specs.TailedRows.{tail_or_none}
-use Rattle.np_syntax.specs.Text.{minus}
-use Rattle.np_syntax.proofs.TailedLexing.{tail_comes, no_tail}
-use Rattle.np_syntax.proofs.WordLexing.{made_stops}
+use Rattle.np_words.specs.TailedRows.{tail_or_none}
+use Rattle.np_words.specs.Text.{minus}
+use Rattle.np_words.proofs.TailedLexing.{tail_comes, no_tail}
+use Rattle.np_words.proofs.WordLexing.{made_stops}
 use Rattle.np_syntax.proofs.read.declarations.number_mark.Goals as goal
 
 pub returns-then-not-take_operator : goal.returns-then-not-take_operator

@@ -2,8 +2,8 @@ use Rattle.std.proofs.lemmas.Result.{err_from_is_err_and}
 use Rattle.np_lex.specs.Lexers.{items_left}
 use Rattle.np_read.specs.ItemReaders.{row}
 use Rattle.np_read.proofs.ItemLexing.{row_goes_on, row_stops, row_done, row_shorter}
-use Rattle.np_syntax.specs.ReadingForm.{requirement}
-use Rattle.np_syntax.proofs.ReadingWords.{starting_requirement}
+use Rattle.np_words.specs.ReadingForm.{requirement}
+use Rattle.np_words.proofs.ReadingWords.{starting_requirement}
 use Rattle.np_syntax.proofs.read.declarations.requirements.Goals as goal
 
 pub returns-in_err-value : goal.returns-in_err-value

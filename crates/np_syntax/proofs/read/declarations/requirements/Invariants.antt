@@ -1,7 +1,7 @@
 use Rattle.std.proofs.Common.{◌≡◌, length}
 use Rattle.np_lex.specs.Lexers.{items_left}
 use Rattle.np_read.specs.ItemReaders.{row}
-use Rattle.np_syntax.specs.ReadingForm.{requirement}
+use Rattle.np_words.specs.ReadingForm.{requirement}
 use Rattle.np_read.proofs.ItemLexing.{with_front}
 use Rattle.np_syntax.proofs.read.declarations.requirements.Given as goal
 

@@ -2,12 +2,12 @@ use Rattle.std.proofs.Common.{Some, Ok, ap, ◌∙◌}
 use Rattle.std.proofs.lemmas.Result.{err_from_is_err_and}
 use Rattle.np_lex.specs.Lexers.{items_left}
 use Rattle.np_read.specs.ItemReaders.{Outcome, and_then}
-use Rattle.np_syntax.specs.declared.word.Word.{Word}
-use Rattle.np_syntax.specs.ReadingForm.{name}
-use Rattle.np_syntax.specs.TailedRows.{tail_or_none}
-use Rattle.np_syntax.specs.Text.{minus}
-use Rattle.np_syntax.proofs.TailedLexing.{tail_comes, no_tail}
-use Rattle.np_syntax.proofs.WordLexing.{made_stops}
+use Rattle.np_words.specs.declared.word.Word.{Word}
+use Rattle.np_words.specs.ReadingForm.{name}
+use Rattle.np_words.specs.TailedRows.{tail_or_none}
+use Rattle.np_words.specs.Text.{minus}
+use Rattle.np_words.proofs.TailedLexing.{tail_comes, no_tail}
+use Rattle.np_words.proofs.WordLexing.{made_stops}
 use Rattle.np_syntax.proofs.read.lists.of_type.Goals as goal
 
 pub returns-then-not-take_operator : goal.returns-then-not-take_operator

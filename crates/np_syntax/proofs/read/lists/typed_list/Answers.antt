@@ -1,14 +1,14 @@
 use Rattle.std.proofs.Common.{Ok, List, ap, sym, refl, ◌∙◌}
 use Rattle.std.proofs.lemmas.Result.{err_from_is_err_and}
 use Rattle.np_lex.specs.Lexers.{items_left}
-use Rattle.np_syntax.specs.declared.word.Group.{Group}
+use Rattle.np_words.specs.declared.word.Group.{Group}
 use Rattle.np_syntax.specs.declared.read.lists.Part.{Part}
-use Rattle.np_syntax.specs.ReadingForm.{name}
-use Rattle.np_syntax.specs.Text.{minus}
+use Rattle.np_words.specs.ReadingForm.{name}
+use Rattle.np_words.specs.Text.{minus}
 use Rattle.np_syntax.specs.DomainForm.{list_word, groups_after, typed_list}
-use Rattle.np_syntax.proofs.ReadingWords.{starting_name}
+use Rattle.np_words.proofs.ReadingWords.{starting_name}
 use Rattle.np_syntax.proofs.TypedLists.{starting_word, minus_differs}
-use Rattle.np_syntax.proofs.TailedLexing.{entries_go_on, entries_stop, entries_done, entries_shorter}
+use Rattle.np_words.proofs.TailedLexing.{entries_go_on, entries_stop, entries_done, entries_shorter}
 use Rattle.np_syntax.proofs.read.lists.typed_list.Goals as goal
 
 pub list-init : goal.list-init

@@ -1,10 +1,10 @@
 use Rattle.std.proofs.Common.{◌≡◌, length}
 use Rattle.np_lex.specs.Lexers.{items_left}
-use Rattle.np_syntax.specs.ReadingForm.{name}
-use Rattle.np_syntax.specs.TailedRows.{tailed_row}
-use Rattle.np_syntax.specs.Text.{minus}
+use Rattle.np_words.specs.ReadingForm.{name}
+use Rattle.np_words.specs.TailedRows.{tailed_row}
+use Rattle.np_words.specs.Text.{minus}
 use Rattle.np_syntax.specs.DomainForm.{list_word, groups_after, typed_list}
-use Rattle.np_syntax.proofs.TailedLexing.{from_state}
+use Rattle.np_words.proofs.TailedLexing.{from_state}
 use Rattle.np_syntax.proofs.read.lists.typed_list.Given as goal
 
 abbrev pub invariant-list : goal.invariant-list

@@ -1,0 +1,10 @@
+pub mod Bare
+pub mod ExprForm
+pub mod ExprText
+pub mod Numbers
+pub mod ReadingForm
+pub mod TailedRows
+pub mod Text
+pub mod Texts
+pub mod Wide
+pub mod Written
