@@ -1,0 +1,10 @@
+use Rattle.std.proofs.Common.{◌≡◌, ◌++◌, drop}
+use Rattle.std.specs.List.{flat_map}
+use Rattle.np_declared.specs.Declarations.{all_constants, constant_groups}
+use Rattle.np_declared.specs.Types.{objects_in}
+use Rattle.np_declared.proofs.tables.constants.Given as goal
+
+-- the constants of the sections that are left are still to be put
+abbrev pub invariant-loop-section : goal.invariant-loop-section
+invariant-loop-section l =
+    objects_in l.types (all_constants l.domain) ≡ l.all ++ objects_in l.types (flat_map constant_groups (drop l.section-index l.section-items))

@@ -1,0 +1,11 @@
+pub mod UsesAnswers
+pub mod UsesArguments
+pub mod UsesSymbols
+pub mod UsesFolds
+pub mod UsesValues
+pub mod UsesActions
+pub mod UsesEach
+pub mod UsesStart
+pub mod UsedTask
+pub mod keeping
+pub mod TaskLaws
