@@ -26,7 +26,8 @@ use Rattle.np_planner.specs.Words.{Check}
 use Rattle.np_planner.specs.Shelves.{HoldsPair}
 use Rattle.np_planner.specs.CheckAnswers.{IsTrueClaim, IsTrueOfCertificate}
 use Rattle.np_planner.specs.RightAnswers.{IsCheckAnswer}
-use Rattle.np_planner.specs.CheckSteps.{IsTrueFor, IsJudged, IsNotFetched}
+use Rattle.np_planner.specs.CheckSteps.{IsTrueFor, IsJudged}
+use Rattle.np_planner.specs.ReadSteps.{IsNotFetched}
 
 -- a test of two numbers that says yes
 at_least : (m n : ℕ) → IsTrue (nat_le m n) → m ≤ n
@@ -66,14 +67,15 @@ module _ (command : Check) (old : SeenShelf) (d : Domain) (p : Problem) (pair : 
   judged_for bytes held answer is = absurd is
 
   -- the answer where they can't be had
-  not_fetched_for : (new : SeenShelf) (answer : Answer) → IsNotFetched command.certificate old new answer → IsCheckAnswer command old new answer
-  not_fetched_for new (CannotRead file.Certificate) failed = (record { domain = d; problem = p; pair = pair }, failed)
+  not_fetched_for : (new : SeenShelf) (answer : Answer) → IsNotFetched file.Certificate command.certificate old new answer → IsCheckAnswer command old new answer
+  not_fetched_for new (CannotRead f) (same, failed) =
+      subst (λ f. IsCheckAnswer command old new (CannotRead f)) (sym same) (record { domain = d; problem = p; pair = pair }, failed)
   not_fetched_for new OutOfMemory same = same
   not_fetched_for new answer unread = absurd unread
 
-pub not_fetched : (command : Check) (old after new : SeenShelf) (d : Domain) (p : Problem) → HoldsPair command.inputs old d p → after ≡ old → (answer : Answer) → IsNotFetched command.certificate after new answer → IsCheckAnswer command old new answer
+pub not_fetched : (command : Check) (old after new : SeenShelf) (d : Domain) (p : Problem) → HoldsPair command.inputs old d p → after ≡ old → (answer : Answer) → IsNotFetched file.Certificate command.certificate after new answer → IsCheckAnswer command old new answer
 not_fetched command old after new d p pair same answer unread =
-    not_fetched_for command old d p pair new answer (subst (λ (s : SeenShelf). IsNotFetched command.certificate s new answer) same unread)
+    not_fetched_for command old d p pair new answer (subst (λ (s : SeenShelf). IsNotFetched file.Certificate command.certificate s new answer) same unread)
 
 pub judged : (command : Check) (old after new : SeenShelf) (d : Domain) (p : Problem) → HoldsPair command.inputs old d p → after ≡ old → new ≡ after → (bytes : List ℕ) → IsHeld after.files command.certificate bytes
     → (flat : Parts) → flat ≡ flat_of d p → (answer : Answer) → IsJudged flat bytes answer → IsCheckAnswer command old new answer

@@ -19,7 +19,7 @@ use Rattle.np_first.specs.FlatOf.{flat_of}
 use Rattle.np_first.proofs.ReadingTexts.{one_domain, one_problem}
 use Rattle.np_planner.specs.declared.answer.File.TheVariants as file
 use Rattle.np_planner.specs.declared.answer.refusal.Refusal.{Refusal}
-use Rattle.np_planner.specs.declared.answer.refusal.Refusal.TheVariants.{TooLong, CertificateSyntax, CertificateNotBuilt}
+use Rattle.np_planner.specs.declared.answer.refusal.Refusal.TheVariants.{TooLong, Syntax, CertificateNotBuilt}
 use Rattle.np_planner.specs.declared.answer.check.CheckAnswer.TheVariants.{Yes, No}
 use Rattle.np_planner.specs.declared.answer.check.Fault.{Fault}
 use Rattle.np_planner.specs.declared.answer.check.Fault.TheVariants.{ProofFails, Repeats, Unjustified, ClaimAbove}
@@ -95,7 +95,7 @@ module _ (command : Check) (claim : Limit) (shelf : SeenShelf) (valid : HoldsVal
 
   -- and nothing in them is a reason to refuse it
   not_refused : (bytes : List ℕ) → IsHeld shelf.files command.certificate bytes → (refusal : Refusal) → IsCertificateReason bytes refusal → ⊥
-  not_refused bytes held (CertificateSyntax place) reason = reason.none valid.certificate (certificate_there bytes held)
+  not_refused bytes held (Syntax file.Certificate place) reason = reason.none valid.certificate (certificate_there bytes held)
   not_refused bytes held CertificateNotBuilt reason =
       reason.other_form (subst IsThin (sym (same_certificate bytes held reason.certificate reason.spelled)) (valid_thin (flat_of valid.domain valid.problem) valid.certificate valid.valid))
   not_refused bytes held refusal reason = absurd reason

@@ -4,6 +4,9 @@ pub mod Checkable
 pub mod Coming
 pub mod Numbers
 pub mod Promises
+pub mod RunEnds
+pub mod SpelledPairs
 pub mod Shelves
 pub mod SolveEnds
+pub mod TaskEnds
 pub mod Works

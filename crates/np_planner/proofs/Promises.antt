@@ -1,12 +1,13 @@
 -- From a right answer that is given to what each status promises.
 use Rattle.std.proofs.Common.{◌≡◌, ℕ, inl, inr, List, Option, Some, None, refl, sym, subst}
 use Rattle.np_io.specs.Seen.{SeenShelf, SeenSink}
+use Rattle.np_run.specs.declared.answers.RunEnd.TheVariants.{Goal, NoGoal, Stuck, NoCost}
 use Rattle.np_planner.specs.declared.answer.solve.SolveAnswer.{SolveAnswer}
 use Rattle.np_planner.specs.declared.answer.solve.SolveAnswer.TheVariants.{Optimal, Unsolvable, Spent}
 use Rattle.np_planner.specs.declared.answer.check.CheckAnswer.TheVariants.{Yes, No}
 use Rattle.np_planner.specs.declared.answer.Answer.{Answer}
-use Rattle.np_planner.specs.declared.answer.Answer.TheVariants.{Usage, CannotRead, Refused, Solved, Checked, CannotWrite, OutOfMemory}
-use Rattle.np_planner.specs.Words.{Solve, Check, Command, solving, checking}
+use Rattle.np_planner.specs.declared.answer.Answer.TheVariants.{Usage, CannotRead, Refused, Solved, Checked, Ran, CannotWrite, OutOfMemory}
+use Rattle.np_planner.specs.Words.{Solve, Check, Run, Command, solving, checking, running}
 use Rattle.np_planner.specs.Texts.{status_of}
 use Rattle.np_planner.specs.SolveAnswers.{IsRightSolve}
 use Rattle.np_planner.specs.RightAnswers.{IsRight, IsRightTo}
@@ -59,6 +60,20 @@ module _ (call : Call) where
     checked answer says (inl without) = absurd without
     checked answer says (inr right) = absurd right
 
+  module _ (command : Run) (words_are : call.command ≡ Some (running command)) where
+    ran : (answer : Answer) → Says call answer → IsRightTo (running command) call.before call.after answer → Kept call (running command) answer
+    ran (CannotRead f) says right = (f, told (CannotRead f) says (running command) right)
+    ran (Refused refusal) says right = (refusal, told (Refused refusal) says (running command) right)
+    ran OutOfMemory says right = forgot (running command) words_are says right
+    ran (Ran (Goal cost)) says (inr right) = (cost, record { says = says; right = right.1; untouched = right.0 })
+    ran (Ran NoGoal) says (inr right) = record { end = NoGoal; other = tt; told = record { says = says; right = right.1; untouched = right.0 } }
+    ran (Ran (Stuck n)) says (inr right) = record { end = Stuck n; other = tt; told = record { says = says; right = right.1; untouched = right.0 } }
+    ran (Ran (NoCost n)) says (inr right) = record { end = NoCost n; other = tt; told = record { says = says; right = right.1; untouched = right.0 } }
+    ran answer says (inl (inl without)) = absurd without
+    ran answer says (inl (inr (inl without))) = absurd without.1
+    ran answer says (inl (inr (inr without))) = absurd without
+    ran answer says (inr right) = absurd right
+
   -- a right answer was said whole
   whole : (answer : Answer) → Says call answer → (o : Option Command) → ((command : Solve) → o ≡ Some (solving command) → AreApart command) → call.command ≡ o → IsRight o call.before call.after answer
       → Promise o (status_named (status_of answer)) call
@@ -66,16 +81,19 @@ module _ (call : Call) where
   whole answer says None names words_are right = absurd right
   whole answer says (Some (solving command)) names words_are right = solved command (names command refl) words_are answer says right
   whole answer says (Some (checking command)) names words_are right = checked command words_are answer says right
+  whole answer says (Some (running command)) names words_are right = ran command words_are answer says right
 
   cut : (o : Option Command) → IsPushCut call → Promise o kind.unwritten call
   cut None is = inr is
   cut (Some (solving command)) is = inr is
   cut (Some (checking command)) is = inr is
+  cut (Some (running command)) is = inr is
 
   unsaid : (o : Option Command) → IsOutOfMemory call → Promise o kind.no_memory call
   unsaid None is = is
   unsaid (Some (solving command)) is = is
   unsaid (Some (checking command)) is = is
+  unsaid (Some (running command)) is = is
 
   module _ (names : (command : Solve) → call.command ≡ Some (solving command) → AreApart command) (status : ℕ) (is : IsAnswered call status) where
     at : (s : ℕ) → status ≡ s → Promise call.command (status_named s) call → KeepsPromise call status
@@ -99,11 +117,13 @@ module _ (call : Call) where
     no_plan None words_are p = absurd p
     no_plan (Some (solving command)) words_are p = record { command = command; words_are = words_are; holds = p }
     no_plan (Some (checking command)) words_are p = absurd p
+    no_plan (Some (running command)) words_are p = absurd p
 
     budget_spent : (o : Option Command) → call.command ≡ o → Promise o kind.spent call → WhenSolving call (IsBudgetSpent call)
     budget_spent None words_are p = absurd p
     budget_spent (Some (solving command)) words_are p = record { command = command; words_are = words_are; holds = p }
     budget_spent (Some (checking command)) words_are p = absurd p
+    budget_spent (Some (running command)) words_are p = absurd p
 
     word : KeepsItsWord call status
     word = record {
@@ -112,6 +132,8 @@ module _ (call : Call) where
       spent = λ e. budget_spent call.command refl (at_status 11 e);
       yes = λ command words_are e. subst (λ (o : Option Command). Promise o kind.done call) words_are (at_status 0 e);
       yes_comes = comes call status is;
+      runs = λ command words_are e. subst (λ (o : Option Command). Promise o kind.done call) words_are (at_status 0 e);
+      runs_not = λ command words_are e. subst (λ (o : Option Command). Promise o kind.denied call) words_are (at_status 6 e);
     }
 
 pub promise_of : (words : List (List ℕ)) (before after : SeenShelf) (out_before out_after : SeenSink) (status : ℕ) → IsAnswered (call_of words before after out_before out_after) status → KeepsPromise (call_of words before after out_before out_after) status

@@ -1,6 +1,5 @@
 -- SCAFFOLDING. What the steps of `check` come to.
 use Rattle.std.specs.Prelude.{◌≡◌, ℕ, ⊤, List}
-use Rattle.np_io.specs.Seen.{SeenShelf}
 use Rattle.np_flat.specs.declared.parts.Parts.{Parts}
 use Rattle.np_cert.specs.declared.certificate.Certificate.{Certificate}
 use Rattle.np_cert.specs.Text.{Spells, IsThin}
@@ -9,17 +8,9 @@ use Rattle.np_check.specs.Verdicts.{IsVerdict}
 use Rattle.np_planner.specs.declared.answer.check.CheckAnswer.{CheckAnswer}
 use Rattle.np_planner.specs.declared.answer.check.CheckAnswer.TheVariants.{Yes, No}
 use Rattle.np_planner.specs.declared.answer.Answer.{Answer}
-use Rattle.np_planner.specs.declared.answer.Answer.TheVariants.{CannotRead, Refused, Checked, OutOfMemory}
-use Rattle.np_planner.specs.declared.answer.File.TheVariants as file
-use Rattle.np_planner.specs.Shelves.{ReadFailed}
+use Rattle.np_planner.specs.declared.answer.Answer.TheVariants.{Refused, Checked, OutOfMemory}
 use Rattle.np_planner.specs.CheckAnswers.{verdict_of}
 use Rattle.np_planner.specs.RightAnswers.{IsCertificateReason}
-
--- the answer where the bytes of a certificate can't be had
-abbrev pub IsNotFetched : List ℕ → SeenShelf → SeenShelf → Answer → Type 0
-IsNotFetched name old new (CannotRead file.Certificate) = ReadFailed name old new
-IsNotFetched name old new OutOfMemory = new ≡ old
-IsNotFetched name old new answer = ⊥
 
 -- what an answer says of a flat task and a certificate
 abbrev pub IsTrueFor : Parts → Certificate → CheckAnswer → Type 0

@@ -5,8 +5,11 @@ pub mod Output
 pub mod Promises
 pub mod ReadSteps
 pub mod RightAnswers
+pub mod RunAnswers
+pub mod RunSteps
 pub mod Shelves
 pub mod SolveAnswers
 pub mod SolveSteps
+pub mod TaskFiles
 pub mod Texts
 pub mod Words

@@ -1,9 +1,12 @@
 -- What the top call promises, status by status.
-use Rattle.std.specs.Prelude.{◌≡◌, ℕ, ◌==◌, ◌⊎◌, List, Option, Some, None, if◌then◌else◌}
+use Rattle.std.specs.Prelude.{◌≡◌, ℕ, ⊤, ◌==◌, ◌⊎◌, List, Option, Some, None, if◌then◌else◌}
 use Rattle.np_io.specs.Seen.{SeenShelf, SeenSink}
 use Rattle.np_io.specs.Files.{Files}
 use Rattle.np_io.specs.Counts.{Rose}
+use Rattle.np_frac.specs.Fractions.{Fraction}
 use Rattle.np_cert.specs.declared.certificate.Limit.{Limit}
+use Rattle.np_run.specs.declared.answers.RunEnd.{RunEnd}
+use Rattle.np_run.specs.declared.answers.RunEnd.TheVariants.{Goal}
 use Rattle.np_planner.specs.declared.answer.File.{File}
 use Rattle.np_planner.specs.declared.answer.refusal.Refusal.{Refusal}
 use Rattle.np_planner.specs.declared.answer.solve.SolveAnswer.{SolveAnswer}
@@ -12,10 +15,11 @@ use Rattle.np_planner.specs.declared.answer.check.CheckAnswer.{CheckAnswer}
 use Rattle.np_planner.specs.declared.answer.check.CheckAnswer.TheVariants.{Yes, No}
 use Rattle.np_planner.specs.declared.answer.check.Fault.{Fault}
 use Rattle.np_planner.specs.declared.answer.Answer.{Answer}
-use Rattle.np_planner.specs.declared.answer.Answer.TheVariants.{Usage, CannotRead, Refused, Solved, Checked, CannotWrite, OutOfMemory}
-use Rattle.np_planner.specs.Words.{Solve, Check, Command, solving, checking, command_of}
+use Rattle.np_planner.specs.declared.answer.Answer.TheVariants.{Usage, CannotRead, Refused, Solved, Checked, Ran, CannotWrite, OutOfMemory}
+use Rattle.np_planner.specs.Words.{Solve, Check, Run, Command, solving, checking, running, command_of}
 use Rattle.np_planner.specs.SolveAnswers.{IsRightSolve, claim_of}
 use Rattle.np_planner.specs.CheckAnswers.{IsRightCheck, HoldsValid}
+use Rattle.np_planner.specs.RunAnswers.{IsRightRun}
 use Rattle.np_planner.specs.RightAnswers.{IsRight, IsRightTo}
 use Rattle.np_planner.specs.Texts.{text_of}
 use Rattle.np_planner.specs.Output.{IsWhole, IsCutOff, IsAnsweredBy}
@@ -119,6 +123,27 @@ IsYes call command = (claim : Limit) × IsCheckTold call command (Yes claim)
 abbrev pub IsNo : Call → Check → Type 0
 IsNo call command = (fault : Fault) × IsCheckTold call command (No fault)
 
+-- the text of this answer of `run` was pushed; it is true of the files, and nothing was done
+pub record IsRunTold (call : Call) (command : Run) (end : RunEnd) : Type 0 where
+  pub says : Says call (Ran end)
+  pub right : IsRightRun command end call.before
+  pub untouched : call.after ≡ call.before
+
+-- `Plan, cost C`: the file's steps are a plan of the task of the pair, of cost C
+abbrev pub IsPlanTold : Call → Run → Type 0
+IsPlanTold call command = (cost : Fraction) × IsRunTold call command (Goal cost)
+
+-- it isn't that of a plan
+abbrev pub IsOtherEnd : RunEnd → Type 0
+IsOtherEnd (Goal cost) = ⊥
+IsOtherEnd end = ⊤
+
+-- `Not a plan: ..`: the first step that isn't applicable or has no cost, or that the goal doesn't hold at the end
+pub record IsNoPlanTold (call : Call) (command : Run) : Type 0 where
+  pub end : RunEnd
+  pub other : IsOtherEnd end
+  pub told : IsRunTold call command end
+
 -- the words fit no command, the usage text was pushed, and nothing was done
 pub record IsUsage (call : Call) : Type 0 where
   pub says : Says call Usage
@@ -159,6 +184,8 @@ Promise (Some (solving solve)) unsolvable call = HasNoPlan call solve
 Promise (Some (solving solve)) spent call = IsBudgetSpent call solve
 Promise (Some (checking check)) done call = IsYes call check
 Promise (Some (checking check)) denied call = IsNo call check
+Promise (Some (running run)) done call = IsPlanTold call run
+Promise (Some (running run)) denied call = IsNoPlanTold call run
 Promise (Some command) refused call = IsRefused call command
 Promise (Some command) unread call = HadReadFault call command
 Promise command unwritten call = HadWriteFault call command ⊎ IsPushCut call
@@ -183,10 +210,13 @@ pub record WhenSolving (call : Call) (Holds : Solve → Type 0) : Type 0 where
 
 -- THE HEADLINE. What `solve` prints is true: the plan runs, meets the goal and costs the printed number, and no plan of any length costs
 -- less; or there is none; or no plan costs less than the bound. What it puts is a certificate to which `check` says yes. And the yes of
--- `check`, on whatever bytes, is true of its claim, and comes for every valid certificate, where nothing fails and memory is there.
+-- `check`, on whatever bytes, is true of its claim, and comes for every valid certificate, where nothing fails and memory is there. What
+-- `run` says of a plan's file is true of the task of the two files.
 pub record KeepsItsWord (call : Call) (status : ℕ) : Type 0 where
   pub optimal : (command : Solve) → call.command ≡ Some (solving command) → status ≡ 0 → IsOptimal call command
   pub unsolvable : status ≡ 10 → WhenSolving call (HasNoPlan call)
   pub spent : status ≡ 11 → WhenSolving call (IsBudgetSpent call)
   pub yes : (command : Check) → call.command ≡ Some (checking command) → status ≡ 0 → IsYes call command
   pub yes_comes : (command : Check) (claim : Limit) → call.command ≡ Some (checking command) → HoldsValid command claim call.before → HadNoFault call command → ((status ≡ 0) × Says call (Checked (Yes claim))) ⊎ (status ≡ 7)
+  pub runs : (command : Run) → call.command ≡ Some (running command) → status ≡ 0 → IsPlanTold call command
+  pub runs_not : (command : Run) → call.command ≡ Some (running command) → status ≡ 6 → IsNoPlanTold call command

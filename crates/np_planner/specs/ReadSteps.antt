@@ -14,3 +14,9 @@ IsNotRead file name limit old new (CannotRead f) = (f ≡ file) × ReadFailed na
 IsNotRead file name limit old new (Refused (TooLong f)) = (f ≡ file) × (new ≡ old) × IsLonger old.files name limit
 IsNotRead file name limit old new OutOfMemory = new ≡ old
 IsNotRead file name limit old new answer = ⊥
+
+-- the answer for a file that can't be had, however many bytes it has
+abbrev pub IsNotFetched : File → List ℕ → SeenShelf → SeenShelf → Answer → Type 0
+IsNotFetched file name old new (CannotRead f) = (f ≡ file) × ReadFailed name old new
+IsNotFetched file name old new OutOfMemory = new ≡ old
+IsNotFetched file name old new answer = ⊥

@@ -14,14 +14,16 @@ use Rattle.np_first.specs.FirstForm.{SpellNoPair}
 use Rattle.np_planner.specs.declared.answer.File.{File}
 use Rattle.np_planner.specs.declared.answer.File.TheVariants as file
 use Rattle.np_planner.specs.declared.answer.refusal.Refusal.{Refusal}
-use Rattle.np_planner.specs.declared.answer.refusal.Refusal.TheVariants.{TooLong, PairNotBuilt, CertificateSyntax, CertificateNotBuilt}
+use Rattle.np_planner.specs.declared.answer.refusal.Refusal.TheVariants.{TooLong, Syntax, PairNotBuilt, CertificateNotBuilt}
 use Rattle.np_planner.specs.declared.answer.Answer.{Answer}
 use Rattle.np_planner.specs.declared.answer.Answer.TheVariants.{Usage, CannotRead, Refused, Solved, Checked, CannotWrite, OutOfMemory}
 use Rattle.np_planner.specs.declared.inputs.TheConstants.{MOST_BYTES}
-use Rattle.np_planner.specs.Words.{Inputs, Solve, Check, Command, solving, checking}
+use Rattle.np_planner.specs.Words.{Inputs, Solve, Check, Command, solving, checking, running}
 use Rattle.np_planner.specs.Shelves.{WasRead, AreRead, HoldsPair, ReadFailed}
 use Rattle.np_planner.specs.SolveAnswers.{IsRightSolve, OnlyCertified, WasUnwritten}
 use Rattle.np_planner.specs.CheckAnswers.{IsRightCheck}
+use Rattle.np_planner.specs.TaskFiles.{IsWithoutTask}
+use Rattle.np_planner.specs.RunAnswers.{IsRunAnswer}
 
 -- the read of a file of the pair failed, and nothing else did; the domain is read first
 abbrev pub WasUnread : Inputs → File → SeenShelf → SeenShelf → Type 0
@@ -76,7 +78,7 @@ pub record SpellUnbuilt (bytes : List ℕ) : Type 0 where
 
 -- what a refusal says of the bytes of a certificate; they are never too many
 abbrev pub IsCertificateReason : List ℕ → Refusal → Type 0
-IsCertificateReason bytes (CertificateSyntax place) = SpellNone bytes place
+IsCertificateReason bytes (Syntax file.Certificate place) = SpellNone bytes place
 IsCertificateReason bytes CertificateNotBuilt = SpellUnbuilt bytes
 IsCertificateReason bytes refusal = ⊥
 
@@ -105,6 +107,7 @@ IsCheckAnswer check old new answer = ⊥
 abbrev pub IsRightTo : Command → SeenShelf → SeenShelf → Answer → Type 0
 IsRightTo (solving solve) old new answer = IsWithoutPair solve.inputs old new answer ⊎ IsSolveAnswer solve old new answer
 IsRightTo (checking check) old new answer = IsWithoutPair check.inputs old new answer ⊎ IsCheckAnswer check old new answer
+IsRightTo (running run) old new answer = IsWithoutTask run.inputs old new answer ⊎ IsRunAnswer run old new answer
 
 -- whether an answer to words is right: usage exactly where they fit no command, and then nothing was done
 abbrev pub IsRight : Option Command → SeenShelf → SeenShelf → Answer → Type 0

@@ -1,4 +1,4 @@
--- The words of the commands `solve` and `check`.
+-- The words of the commands.
 use Rattle.std.specs.Prelude.{ℕ, ◌+◌, ◌-◌, ◌*◌, Bool, ◌&&◌, not, List, [], ◌∷◌, Option, Some, None, codes, nat_le, if◌then◌else◌}
 use Rattle.std.specs.Char.{is_ascii_digit}
 use Rattle.std.specs.Option.{option_map, option_or}
@@ -22,10 +22,16 @@ pub record Check : Type 0 where
   pub inputs : Inputs
   pub certificate : List ℕ
 
+-- what `run` is told: the pair, and the plan
+pub record Run : Type 0 where
+  pub inputs : Inputs
+  pub plan : List ℕ
+
 -- what a command is told
 pub data Command : Type 0 where
   solving : Solve → Command
   checking : Check → Command
+  running : Run → Command
 
 -- the number that decimal digits stand for after a number that is already read; none where a byte is no digit
 abbrev pub number_from : ℕ → List ℕ → Option ℕ
@@ -62,14 +68,20 @@ solve_of (command ∷ domain ∷ problem ∷ plan ∷ certificate ∷ words) =
     else None
 solve_of words = None
 
+-- the pair and the third file that words name after this word
+abbrev pub names_after : List ℕ → List (List ℕ) → Option (Inputs × List ℕ)
+names_after first (command ∷ domain ∷ problem ∷ third ∷ []) =
+    if bytes_eq command first then Some (record { domain = domain; problem = problem }, third) else None
+names_after first words = None
+
 -- `check DOMAIN PROBLEM CERT`
 abbrev pub check_of : List (List ℕ) → Option Check
-check_of (command ∷ domain ∷ problem ∷ certificate ∷ []) =
-    if bytes_eq command (codes "check")
-    then Some (record { inputs = record { domain = domain; problem = problem }; certificate = certificate })
-    else None
-check_of words = None
+check_of words = option_map (λ names. record { inputs = names.0; certificate = names.1 }) (names_after (codes "check") words)
 
--- the command that the words fit; they never fit both
+-- `run DOMAIN PROBLEM PLAN`
+abbrev pub run_of : List (List ℕ) → Option Run
+run_of words = option_map (λ names. record { inputs = names.0; plan = names.1 }) (names_after (codes "run") words)
+
+-- the command that the words fit; they never fit two
 abbrev pub command_of : List (List ℕ) → Option Command
-command_of words = option_or (option_map solving (solve_of words)) (option_map checking (check_of words))
+command_of words = option_or (option_map solving (solve_of words)) (option_or (option_map checking (check_of words)) (option_map running (run_of words)))

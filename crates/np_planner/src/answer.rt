@@ -4,10 +4,13 @@ ghost use Rattle.np_planner.specs.Texts.{name_of, text_of, status_of};
 
 mod check;
 mod refusal;
+mod run;
 mod solve;
 
 pub use check::{CheckAnswer, Fault};
+use np_run::RunEnd;
 pub use refusal::Refusal;
+use run::{run_status, run_text};
 pub use solve::SolveAnswer;
 use std::alloc::{AllocError, Global};
 
@@ -33,6 +36,8 @@ pub enum Answer {
     Solved(SolveAnswer),
     /// An answer of `check`.
     Checked(CheckAnswer),
+    /// An answer of `run`.
+    Ran(RunEnd),
     /// A file could not be written.
     CannotWrite(File),
     /// Out of memory.
@@ -61,12 +66,13 @@ impl Answer {
         match self {
             Answer::Usage => String::from_str(
                 alloc,
-                "usage: solve DOMAIN PROBLEM PLAN CERT [NODES]\n       check DOMAIN PROBLEM CERT\n",
+                "usage: solve DOMAIN PROBLEM PLAN CERT [NODES]\n       check DOMAIN PROBLEM CERT\n       run DOMAIN PROBLEM PLAN\n",
             ),
             Answer::CannotRead(file) => format!(in alloc; "Refused: cannot read {}\n", file.name()),
             Answer::Refused(refusal) => refusal.text(alloc),
             Answer::Solved(answer) => answer.text(alloc),
             Answer::Checked(answer) => answer.text(alloc),
+            Answer::Ran(end) => run_text(alloc, *end),
             Answer::CannotWrite(file) => {
                 format!(in alloc; "Refused: cannot write {}\n", file.name())
             }
@@ -86,6 +92,7 @@ impl Answer {
             Answer::OutOfMemory => 7,
             Answer::Solved(answer) => answer.status(),
             Answer::Checked(answer) => answer.status(),
+            Answer::Ran(end) => run_status(*end),
         }
     }
 }

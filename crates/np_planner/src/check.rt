@@ -1,20 +1,19 @@
 //! The command `check`.
-ghost use Rattle.std.specs.Prelude.{◌≡◌, IfOk, IfErr, OnOk};
-ghost use Rattle.np_io.specs.Files.{IsHeld};
+ghost use Rattle.std.specs.Prelude.{◌≡◌};
 ghost use Rattle.np_planner.specs.declared.answer.Answer.TheVariants as answer;
 ghost use Rattle.np_planner.specs.declared.answer.check.CheckAnswer.TheVariants as check_answer;
 ghost use Rattle.np_planner.specs.Words.{checking};
 ghost use Rattle.np_planner.specs.CommandSteps.{told_check};
 ghost use Rattle.np_planner.specs.RightAnswers.{IsRightTo};
-ghost use Rattle.np_planner.specs.CheckSteps.{IsJudged, IsNotFetched};
+ghost use Rattle.np_planner.specs.CheckSteps.{IsJudged};
 
 use crate::answer::{Answer, CheckAnswer, Fault, File, Refusal};
-use crate::inputs::read_inputs;
+use crate::inputs::{read_inputs, read_whole};
 use crate::words::Check;
 use np_cert::{CertFault, read_certificate};
 use np_check::{Verdict, check_certificate};
 use np_flat::Flat;
-use np_io::{Fetch, Shelf};
+use np_io::Shelf;
 use std::alloc::Global;
 
 /// Checks a certificate for the pair of files that the words name.
@@ -25,23 +24,9 @@ pub fn check<S: Shelf>(alloc: Global, command: &Check<'_>, shelf: &mut S) -> Ans
         Ok(pair) => pair,
         Err(answer) => return answer,
     };
-    match read_bytes(alloc, shelf, command.certificate) {
+    match read_whole(alloc, shelf, command.certificate, File::Certificate) {
         Ok(bytes) => judge(alloc, pair.flat(), bytes.as_slice()),
         Err(answer) => answer,
-    }
-}
-
-/// The bytes of the certificate, however many, or the answer where they can't be had.
-fn read_bytes<S: Shelf>(alloc: Global, shelf: &mut S, name: &str) -> Result<Vec<u8>, Answer>
-    ensures untouched { OnOk result (S.seen shelf.new ≡ S.seen shelf.old) }
-    ensures held { IfOk result (λ bytes. IsHeld (S.seen shelf.old).files name.now bytes.items) }
-    ensures refused { IfErr result (IsNotFetched name.now (S.seen shelf.old) (S.seen shelf.new)) }
-{
-    match shelf.fetch(alloc, name, usize::MAX) {
-        Ok(bytes) => Ok(bytes),
-        Err(Fetch::Failed) => Err(Answer::CannotRead(File::Certificate)),
-        Err(Fetch::TooLong) => unreachable!(),
-        Err(Fetch::Memory) => Err(Answer::OutOfMemory),
     }
 }
 
@@ -52,7 +37,10 @@ fn judge(alloc: Global, flat: &Flat, bytes: &[u8]) -> Answer
     let certificate = match read_certificate(alloc, bytes) {
         Ok(certificate) if certificate.is_thin() => certificate,
         Ok(_) => return Answer::Refused(Refusal::CertificateNotBuilt),
-        Err(CertFault::At(place)) => return Answer::Refused(Refusal::CertificateSyntax(place)),
+        Err(CertFault::At(place)) => return Answer::Refused(Refusal::Syntax(
+            File::Certificate,
+            place,
+        )),
         Err(CertFault::Memory) => return Answer::OutOfMemory,
     };
     match check_certificate(alloc, flat, &certificate) {

@@ -6,6 +6,7 @@ ghost use Rattle.np_planner.specs.Promises.{call_of, IsAnswered, KeepsPromise, K
 
 use crate::answer::Answer;
 use crate::check::check;
+use crate::run::run;
 use crate::say::say;
 use crate::solve::solve;
 use crate::words::{Command, command_words};
@@ -19,6 +20,7 @@ fn answer<S: Shelf>(alloc: Global, words: &[String], shelf: &mut S) -> Answer
     match command_words(words) {
         Some(Command::Solve(command)) => solve(alloc, &command, shelf),
         Some(Command::Check(command)) => check(alloc, &command, shelf),
+        Some(Command::Run(command)) => run(alloc, &command, shelf),
         None => Answer::Usage,
     }
 }

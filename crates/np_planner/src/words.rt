@@ -2,9 +2,9 @@
 ghost use Rattle.std.specs.Prelude.{◌≡◌, ◌≤◌, map, string_bytes, IfSome, Some, false};
 ghost use Rattle.std.specs.Str.{bytes_eq};
 ghost use Rattle.std.specs.Option.{option_map};
-ghost use Rattle.np_planner.specs.Words.{solve_of, check_of, command_of, budget_of, nodes_of, is_apart};
+ghost use Rattle.np_planner.specs.Words.{solve_of, check_of, run_of, command_of, names_after, budget_of, nodes_of, is_apart};
 ghost use Rattle.np_planner.specs.declared.words.TheConstants.{MOST_NODES};
-ghost use Rattle.np_planner.specs.CommandSteps.{told, told_solve, told_check, told_inputs};
+ghost use Rattle.np_planner.specs.CommandSteps.{told, told_solve, told_check, told_run, told_inputs, told_names};
 ghost use Rattle.np_planner.specs.declared.words.Solve.{Solve as SolveWords};
 ghost use Rattle.np_planner.specs.declared.words.Command.TheVariants as fits;
 
@@ -37,11 +37,19 @@ pub struct Check<'a> {
     pub certificate: &'a str,
 }
 
+/// What `run` is told: the pair, and the plan.
+#[derive(Clone, Copy)]
+pub struct Run<'a> {
+    pub inputs: Inputs<'a>,
+    pub plan: &'a str,
+}
+
 /// What a command is told.
 #[derive(Clone, Copy)]
 pub enum Command<'a> {
     Solve(Solve<'a>),
     Check(Check<'a>),
+    Run(Run<'a>),
 }
 
 /// The command that the words fit; none where they fit no command.
@@ -55,7 +63,10 @@ pub fn command_words(words: &[String]) -> Option<Command<'_>>
         Some(command) => Some(Command::Solve(command)),
         None => match check_words(words) {
             Some(command) => Some(Command::Check(command)),
-            None => None,
+            None => match run_words(words) {
+                Some(command) => Some(Command::Run(command)),
+                None => None,
+            },
         },
     }
 }
@@ -96,19 +107,36 @@ fn solve_words(words: &[String]) -> Option<Solve<'_>>
 fn check_words(words: &[String]) -> Option<Check<'_>>
     ensures { option_map told_check result ≡ check_of (map string_bytes words.now) }
 {
-    let [command, domain, problem, certificate] = words else {
+    let (inputs, certificate) = names_after("check", words)?;
+    Some(Check {
+        inputs,
+        certificate,
+    })
+}
+
+/// What the words tell `run`; none where they aren't `run DOMAIN PROBLEM PLAN`.
+fn run_words(words: &[String]) -> Option<Run<'_>>
+    ensures { option_map told_run result ≡ run_of (map string_bytes words.now) }
+{
+    let (inputs, plan) = names_after("run", words)?;
+    Some(Run { inputs, plan })
+}
+
+/// The pair and the third file that the words name after this word; none where they are other words, or not so many.
+fn names_after<'a>(first: &str, words: &'a [String]) -> Option<(Inputs<'a>, &'a str)>
+    ensures { option_map told_names result ≡ names_after first.now (map string_bytes words.now) }
+{
+    let [command, domain, problem, third] = words else {
         return None;
     };
-    if command.as_str() != "check" {
+    if command.as_str() != first {
         return None;
     }
-    Some(Check {
-        inputs: Inputs {
-            domain: domain.as_str(),
-            problem: problem.as_str(),
-        },
-        certificate: certificate.as_str(),
-    })
+    let inputs = Inputs {
+        domain: domain.as_str(),
+        problem: problem.as_str(),
+    };
+    Some((inputs, third.as_str()))
 }
 
 /// Whether the names that are written differ from each other and from those that are read.

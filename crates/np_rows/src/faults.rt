@@ -7,7 +7,7 @@ use np_io::{MemoryShelf, MemorySink};
 use std::process::Abort;
 
 const USAGE: &str =
-    "usage: solve DOMAIN PROBLEM PLAN CERT [NODES]\n       check DOMAIN PROBLEM CERT\n";
+    "usage: solve DOMAIN PROBLEM PLAN CERT [NODES]\n       check DOMAIN PROBLEM CERT\n       run DOMAIN PROBLEM PLAN\n";
 
 /// Words that fit no command.
 const FAULTY: &[&[&str]] = &[
@@ -17,6 +17,8 @@ const FAULTY: &[&[&str]] = &[
     &["Solve", "d", "p", "plan", "cert"],
     &["check", "d", "p"],
     &["check", "d", "p", "cert", "plan"],
+    &["run", "d", "p"],
+    &["run", "d", "p", "plan", "cert"],
     &["solve", "d", "p", "cert"],
     &["solve", "d", "p", "plan", "cert", "0"],
     &["solve", "d", "p", "plan", "cert", "01"],

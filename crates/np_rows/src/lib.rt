@@ -10,6 +10,10 @@ mod faults;
 #[cfg(test)]
 mod forms;
 #[cfg(test)]
+mod run;
+#[cfg(test)]
 mod solve;
 #[cfg(test)]
 mod trial;
+#[cfg(test)]
+mod typing;

@@ -140,3 +140,18 @@ pub fn expect_check(
         status,
     );
 }
+
+/// Calls `run` on these three texts, and compares its status and what it pushed.
+pub fn expect_run(
+    rt: &(impl Abort + AllocGlobal),
+    texts: (&str, &str, &str),
+    answer: &str,
+    status: u8,
+) {
+    let (domain, problem, plan) = texts;
+    let mut shelf = shelf(rt, domain.as_bytes(), problem.as_bytes());
+    shelf.set("plan", plan.as_bytes()).expect(rt, "memory");
+    let mut sink = MemorySink::new(rt.alloc());
+    let words = ["run", "d", "p", "plan"];
+    expect(rt, &words, &mut shelf, &mut sink, answer, status);
+}

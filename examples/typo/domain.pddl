@@ -1,0 +1,8 @@
+; What a refusal looks like: the effect names a predicate that isn't declared, `lit` for `light`.
+(define (domain lamps)
+  (:types lamp)
+  (:predicates (light ?l - lamp))
+  (:action switch
+    :parameters (?l - lamp)
+    :precondition (not (light ?l))
+    :effect (lit ?l)))

@@ -1,0 +1,3 @@
+(define (problem one) (:domain lamps)
+  (:objects l - lamp)
+  (:goal (light l)))

@@ -1,0 +1,8 @@
+(define (problem flour-and-nails) (:domain vans)
+  (:objects v1 - van flour nails - crate mill ford town - place)
+  (:init (at v1 mill) (at flour mill) (at nails ford) (pump ford)
+    (= (road mill ford) 4) (= (road ford mill) 4) (= (road ford town) 6) (= (road town ford) 6)
+    (= (fuel v1) 3) (= (use v1) 0.5) (= (carried v1) 0) (= (room v1) 2.5)
+    (= (weight flour) 1.5) (= (weight nails) 2))
+  (:goal (and (at flour town) (at nails town)))
+  (:metric minimize (total-cost)))
