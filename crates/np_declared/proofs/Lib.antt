@@ -10,3 +10,4 @@ pub mod Stepping
 pub mod HasTables
 pub mod TaskFaults
 pub mod TouchedLaws
+pub mod Rising

@@ -9,3 +9,4 @@ pub mod Answers
 pub mod NameSets
 pub mod ScopeNames
 pub mod LookUps
+pub mod Ranks

@@ -6,6 +6,7 @@ mod declarations;
 mod fault;
 mod names;
 mod parts;
+mod ranks;
 mod sections;
 mod tables;
 mod touched;

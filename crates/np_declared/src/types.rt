@@ -2,10 +2,11 @@
 ghost use Rattle.std.specs.Prelude.{◌≡◌, ◌++◌, ◌∷◌, [], map, fold, filter, List, Option};
 ghost use Rattle.std.specs.List.{flat_map};
 ghost use Rattle.np_declared.specs.Answers.{Answers};
-ghost use Rattle.np_declared.specs.Declarations.{all_types, type_cycles, cyclic_words, is_cyclic, is_under_itself};
+ghost use Rattle.np_declared.specs.Declarations.{all_types, type_cycles, cyclic_words, is_cyclic};
 ghost use Rattle.np_declared.specs.Faults.{faults_of};
 ghost use Rattle.np_declared.specs.LookUps.{HasSupertypes};
 ghost use Rattle.np_declared.specs.Names.{with_name, texts, number_of, typed, typed_words, object};
+ghost use Rattle.np_declared.specs.Ranks.{NeverFall};
 ghost use Rattle.np_declared.specs.Symbols.{type_names_of};
 ghost use Rattle.np_declared.specs.Types.{type_words, type_names, supertype, type_named, types_of};
 ghost use Rattle.np_words.specs.declared.word.Group.{Group};
@@ -15,8 +16,9 @@ use crate::declarations::is_object;
 use crate::fault::{Source, TypeFault, TypeWhy};
 use crate::names::{Names, copy};
 use crate::parts::type_groups;
+use crate::ranks::{is_under_itself, ranks_of};
 use indexmap::IndexMap;
-use np_model::{Name, TypeName, is_under, parent_of};
+use np_model::{Name, TypeName};
 use np_syntax::{Domain, Group, Word};
 use sqlite_items::Items;
 use std::alloc::{AllocError, Global};
@@ -137,31 +139,37 @@ fn types_of(alloc: Global, names: &Names<'_>, domain: &Domain) -> Result<Items<T
     Ok(types)
 }
 
-/// Whether a type is under itself.
-fn is_under_itself(types: &[TypeName], number: u32) -> bool
-    ensures { result ≡ is_under_itself types.now number }
-{
-    is_under(types, parent_of(types, number), number)
-}
-
 /// Whether a word is a type under itself, or `object` and listed under a type.
-fn is_cyclic(types: &[TypeName], names: &Names<'_>, over: &Option<Word>, word: &Word) -> bool
-    requires { names.now ≡ type_names_of types.now }
+fn is_cyclic(
+    types: &[TypeName],
+    ranks: &[u32],
+    names: &Names<'_>,
+    over: &Option<Word>,
+    word: &Word,
+) -> bool
+    requires names { names.now ≡ type_names_of types.now }
+    requires ranks { NeverFall types.now ranks.now }
     ensures { result ≡ is_cyclic types.now over.now word.now }
 {
     if is_object(word) {
         return over.is_some();
     }
-    is_under_itself(types, names.number(&word.text))
+    is_under_itself(types, ranks, names.number(&word.text))
 }
 
 /// No type of a group is under itself.
-fn acyclic_group(types: &[TypeName], names: &Names<'_>, group: &Group) -> Result<(), TypeFault>
-    requires { names.now ≡ type_names_of types.now }
+fn acyclic_group(
+    types: &[TypeName],
+    ranks: &[u32],
+    names: &Names<'_>,
+    group: &Group,
+) -> Result<(), TypeFault>
+    requires names { names.now ≡ type_names_of types.now }
+    requires ranks { NeverFall types.now ranks.now }
     ensures { Answers (faults_of Source.Domain TypeWhy.TypeCycle (filter (is_cyclic types.now group.now.of) group.now.words)) (λ _. Unit {0}) result }
 {
     for word in group.words.as_slice() {
-        if is_cyclic(types, names, &group.of, word) {
+        if is_cyclic(types, ranks, names, &group.of, word) {
             let place = word.place;
             return Err(TypeFault::At(Source::Domain, place, TypeWhy::TypeCycle));
         }
@@ -170,23 +178,35 @@ fn acyclic_group(types: &[TypeName], names: &Names<'_>, group: &Group) -> Result
 }
 
 /// No type of typed lists is under itself.
-fn acyclic_groups(types: &[TypeName], names: &Names<'_>, groups: &[Group]) -> Result<(), TypeFault>
-    requires { names.now ≡ type_names_of types.now }
+fn acyclic_groups(
+    types: &[TypeName],
+    ranks: &[u32],
+    names: &Names<'_>,
+    groups: &[Group],
+) -> Result<(), TypeFault>
+    requires names { names.now ≡ type_names_of types.now }
+    requires ranks { NeverFall types.now ranks.now }
     ensures { Answers (faults_of Source.Domain TypeWhy.TypeCycle (cyclic_words types.now groups.now)) (λ _. Unit {0}) result }
 {
     for group in groups {
-        acyclic_group(types, names, group)?;
+        acyclic_group(types, ranks, names, group)?;
     }
     Ok(())
 }
 
 /// No type is under itself.
-fn acyclic(types: &[TypeName], names: &Names<'_>, domain: &Domain) -> Result<(), TypeFault>
+fn acyclic(
+    alloc: Global,
+    types: &[TypeName],
+    names: &Names<'_>,
+    domain: &Domain,
+) -> Result<(), TypeFault>
     requires { names.now ≡ type_names_of types.now }
     ensures { Answers (faults_of Source.Domain TypeWhy.TypeCycle (cyclic_words types.now (all_types domain.now))) (λ _. Unit {0}) result }
 {
+    let ranks = ranks_of(alloc, types)?;
     for section in domain.sections.as_slice() {
-        acyclic_groups(types, names, type_groups(section))?;
+        acyclic_groups(types, ranks.as_slice(), names, type_groups(section))?;
     }
     Ok(())
 }
@@ -211,6 +231,6 @@ pub fn type_table<'a>(
 {
     let names = names_of_types(alloc, top, domain)?;
     let list = types_of(alloc, &names, domain)?;
-    acyclic(list.as_slice(), &names, domain)?;
+    acyclic(alloc, list.as_slice(), &names, domain)?;
     Ok(TypeTable { list, names })
 }
