@@ -13,9 +13,9 @@ use Rattle.np_cert.specs.declared.certificate.Limit.{Limit}
 use Rattle.np_cert.specs.declared.certificate.Limit.TheVariants.{Number, Absent}
 use Rattle.np_cert.specs.declared.certificate.Entry.{Entry}
 use Rattle.np_cert.specs.Valid.{at_most}
-use Rattle.np_first.specs.declared.counters.Counters.{Counters}
-use Rattle.np_first.specs.Counters.{Values, run, is_goal}
-use Rattle.np_first.specs.SamePlans.{Fits}
+use Rattle.np_first_text.specs.declared.counters.Counters.{Counters}
+use Rattle.np_first_text.specs.Counters.{Values, run, is_goal}
+use Rattle.np_first_text.specs.SamePlans.{Fits}
 use Rattle.np_first.specs.FlatOf.{flat_state}
 use Rattle.np_first.specs.Explored.{Expanded, IsReachedBy, AreExpanded}
 use Rattle.np_first.specs.Evidence.{entry_of}
@@ -23,8 +23,8 @@ use Rattle.np_first.specs.Certified.{IsExpandedEntry, IsSpentOn}
 use Rattle.np_first.specs.Found.{IsSpentWith}
 use Rattle.np_first.proofs.SearchGrowth.{contains_placed, placed_contained}
 use Rattle.np_first.proofs.SearchCover.{further_cover}
-use Rattle.np_first.proofs.SamePlansRuns.{mapped_from}
-use Rattle.np_first.proofs.SamePlans.{length-run}
+use Rattle.np_first_text.proofs.SamePlansRuns.{mapped_from}
+use Rattle.np_first_text.proofs.SamePlans.{length-run}
 use Rattle.np_first.proofs.EvidenceEntries.{IsAlike, fits, value_there}
 use Rattle.np_first.proofs.EvidenceValid.{IsClosed}
 use Rattle.np_first.proofs.CertifiedRuns.{IsNear, IsKnown, reached_late}

@@ -8,16 +8,16 @@ use Rattle.np_cert.specs.declared.certificate.Limit.TheVariants.{Number, Absent}
 use Rattle.np_cert.specs.Layout.{certificate_text}
 use Rattle.np_cert.specs.Valid.{IsValid}
 use Rattle.np_cert.proofs.Printing.{certificate_text_spells}
-use Rattle.np_first.specs.declared.counters.Counters.{Counters}
-use Rattle.np_first.specs.declared.syntax.Domain.{Domain}
-use Rattle.np_first.specs.declared.syntax.Problem.{Problem}
-use Rattle.np_first.specs.CountersOf.{counters_of}
+use Rattle.np_first_text.specs.declared.counters.Counters.{Counters}
+use Rattle.np_first_text.specs.declared.syntax.Domain.{Domain}
+use Rattle.np_first_text.specs.declared.syntax.Problem.{Problem}
+use Rattle.np_first_text.specs.CountersOf.{counters_of}
 use Rattle.np_first.specs.FlatOf.{flat_of}
 use Rattle.np_first.specs.Explored.{Expanded, AreExpanded}
 use Rattle.np_first.specs.Evidence.{entry_of, certificate_of}
 use Rattle.np_first.specs.Certified.{IsCertifiedBy}
 use Rattle.np_first.specs.CertifiedLaws.{CertifiedTo, CertifiedAll, SpentOnFlat}
-use Rattle.np_first.specs.Pairs.{IsPair}
+use Rattle.np_first_text.specs.Pairs.{IsPair}
 use Rattle.np_first.proofs.SameFlatSteps.{flat_cost_is}
 use Rattle.np_first.proofs.SameFlatPlans.{flat_run_of}
 use Rattle.np_first.proofs.EvidenceValid.{IsClosed}

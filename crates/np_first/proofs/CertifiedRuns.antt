@@ -4,11 +4,11 @@ use Rattle.std.specs.Prelude.{⊤}
 use Rattle.std.proofs.lemmas.Option.{same_Some}
 use Rattle.np_cert.specs.declared.certificate.Limit.{Limit}
 use Rattle.np_cert.specs.declared.certificate.Limit.TheVariants.{Number, Absent}
-use Rattle.np_first.specs.declared.counters.Counters.{Counters}
-use Rattle.np_first.specs.Counters.{Values, next, run, AreDistinct}
+use Rattle.np_first_text.specs.declared.counters.Counters.{Counters}
+use Rattle.np_first_text.specs.Counters.{Values, next, run, AreDistinct}
 use Rattle.np_first.specs.Explored.{Expanded, IsAmong}
 use Rattle.np_first.proofs.SearchGrowth.{placed_contained}
-use Rattle.np_first.proofs.SamePlansRuns.{some_from}
+use Rattle.np_first_text.proofs.SamePlansRuns.{some_from}
 use Rattle.np_first.proofs.EvidenceEntries.{value_there}
 use Rattle.np_first.proofs.EvidenceValid.{IsNearEnd, IsClosed}
 

@@ -11,15 +11,15 @@ use Rattle.np_flat.specs.Flats.{AreBelow}
 use Rattle.np_cert.specs.declared.certificate.Limit.{Limit}
 use Rattle.np_cert.specs.declared.certificate.Entry.{Entry}
 use Rattle.np_cert.specs.Valid.{bound_at, IsRepeated}
-use Rattle.np_first.specs.declared.counters.Counters.{Counters}
-use Rattle.np_first.specs.Counters.{Values, next as next_values, is_goal as is_counters_goal, AreDistinct}
-use Rattle.np_first.specs.SamePlans.{Fits}
+use Rattle.np_first_text.specs.declared.counters.Counters.{Counters}
+use Rattle.np_first_text.specs.Counters.{Values, next as next_values, is_goal as is_counters_goal, AreDistinct}
+use Rattle.np_first_text.specs.SamePlans.{Fits}
 use Rattle.np_first.specs.FlatOf.{flat_state}
 use Rattle.np_first.specs.Explored.{Expanded, IsReachedBy, AreExpanded}
 use Rattle.np_first.specs.Certified.{less}
 use Rattle.np_first.specs.Evidence.{entry_of}
-use Rattle.np_first.proofs.SamePlansPlaces.{All-get}
-use Rattle.np_first.proofs.SamePlans.{length-run}
+use Rattle.np_first_text.proofs.SamePlansPlaces.{All-get}
+use Rattle.np_first_text.proofs.SamePlans.{length-run}
 
 -- what a flat task and counters have in common
 pub record IsAlike (task : Parts) (counters : Counters) : Type 0 where

@@ -11,13 +11,13 @@ use Rattle.np_cert.specs.declared.certificate.Limit.{Limit}
 use Rattle.np_cert.specs.declared.certificate.Limit.TheVariants.{Number, Absent}
 use Rattle.np_cert.specs.Valid.{is_small, IsFitting}
 use Rattle.np_cert.specs.Text.{IsLimit, IsWrittenProof, IsWrittenEntry}
-use Rattle.np_first.specs.declared.syntax.Domain.{Domain}
-use Rattle.np_first.specs.declared.syntax.Problem.{Problem}
-use Rattle.np_first.specs.Syntax.{IsDomain, IsProblem}
-use Rattle.np_first.specs.FirstForm.{IsFirstForm}
-use Rattle.np_first.specs.Counters.{Values, next, run}
-use Rattle.np_first.specs.CountersOf.{counters_of}
-use Rattle.np_first.specs.Pairs.{IsProper}
+use Rattle.np_first_text.specs.declared.syntax.Domain.{Domain}
+use Rattle.np_first_text.specs.declared.syntax.Problem.{Problem}
+use Rattle.np_first_text.specs.Syntax.{IsDomain, IsProblem}
+use Rattle.np_first_text.specs.FirstForm.{IsFirstForm}
+use Rattle.np_first_text.specs.Counters.{Values, next, run}
+use Rattle.np_first_text.specs.CountersOf.{counters_of}
+use Rattle.np_first_text.specs.Pairs.{IsProper}
 use Rattle.np_first.specs.FlatOf.{flat_of, flat_state}
 use Rattle.np_first.specs.Explored.{Expanded, IsReachedBy}
 use Rattle.np_first.specs.Evidence.{entry_of, BoundIsCertified, NoneIsCertified, IsWritable}

@@ -12,8 +12,8 @@ use Rattle.np_flat.specs.Flats.{AreNumbers}
 use Rattle.np_cert.specs.declared.certificate.Limit.{Limit}
 use Rattle.np_cert.specs.declared.certificate.Limit.TheVariants.{Number, Absent}
 use Rattle.np_cert.specs.Valid.{at_most, after_cost, is_small, bound_at, IsFitting, IsJustified, IsValidProof, IsValid}
-use Rattle.np_first.specs.declared.counters.Counters.{Counters}
-use Rattle.np_first.specs.Counters.{Values, next as next_values, is_goal}
+use Rattle.np_first_text.specs.declared.counters.Counters.{Counters}
+use Rattle.np_first_text.specs.Counters.{Values, next as next_values, is_goal}
 use Rattle.np_first.specs.FlatOf.{flat_state}
 use Rattle.np_first.specs.Explored.{Expanded, IsReachedBy, IsAmong, AreExpanded}
 use Rattle.np_first.specs.Certified.{less}

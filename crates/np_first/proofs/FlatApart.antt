@@ -8,8 +8,8 @@ use Rattle.std.proofs.lemmas.List.Quantifiers.{all_pairs_push}
 use Rattle.np_flat.specs.declared.parts.Form.{Form}
 use Rattle.np_flat.specs.declared.parts.Subgoal.{Subgoal}
 use Rattle.np_flat.specs.declared.parts.Subgoal.TheVariants as subgoal
-use Rattle.np_first.specs.declared.syntax.Domain.{Domain}
-use Rattle.np_first.specs.declared.syntax.Problem.{Problem}
+use Rattle.np_first_text.specs.declared.syntax.Domain.{Domain}
+use Rattle.np_first_text.specs.declared.syntax.Problem.{Problem}
 use Rattle.np_first.specs.FlatOf.{Reading, is_read, first_readings, readings_of, reading_of, value_order, all_tests, subgoal_of}
 use Rattle.np_first.proofs.FlatReadings.{Decides-is_read}
 

@@ -15,22 +15,22 @@ use Rattle.np_model.specs.declared.task.Step.{Step}
 use Rattle.np_flat.specs.declared.parts.FlatStep.{FlatStep}
 use Rattle.np_flat.specs.Flats.{AreNumbers, IsSubgoal, IsStep, IsFlat}
 use Rattle.np_flat.proofs.Ascending.{ascending_cons, ascending_nil}
-use Rattle.np_first.specs.declared.syntax.Test.{Test}
-use Rattle.np_first.specs.declared.syntax.Effect.{Effect}
-use Rattle.np_first.specs.declared.syntax.Action.{Action}
-use Rattle.np_first.specs.declared.syntax.Domain.{Domain}
-use Rattle.np_first.specs.declared.syntax.Problem.{Problem}
-use Rattle.np_first.specs.Syntax.{IsTest, IsAction, IsDomain, IsProblem}
-use Rattle.np_first.specs.FirstForm.{IsFirstForm, tested}
-use Rattle.np_first.specs.Counters.{most}
-use Rattle.np_first.specs.TaskOf.{term_of, step_of}
-use Rattle.np_first.specs.CountersOf.{start_value}
-use Rattle.np_first.specs.Pairs.{IsProper}
+use Rattle.np_first_text.specs.declared.syntax.Test.{Test}
+use Rattle.np_first_text.specs.declared.syntax.Effect.{Effect}
+use Rattle.np_first_text.specs.declared.syntax.Action.{Action}
+use Rattle.np_first_text.specs.declared.syntax.Domain.{Domain}
+use Rattle.np_first_text.specs.declared.syntax.Problem.{Problem}
+use Rattle.np_first_text.specs.Syntax.{IsTest, IsAction, IsDomain, IsProblem}
+use Rattle.np_first_text.specs.FirstForm.{IsFirstForm, tested}
+use Rattle.np_first_text.specs.Counters.{most}
+use Rattle.np_first_text.specs.TaskOf.{term_of, step_of}
+use Rattle.np_first_text.specs.CountersOf.{start_value}
+use Rattle.np_first_text.specs.Pairs.{IsProper}
 use Rattle.np_first.specs.FlatOf.{Reading, reading_of, reading_number, value_order, all_tests, readings_of, subgoal_of, subgoals_of, net_on, flat_step, steps_from, flat_of}
 use Rattle.np_first.proofs.PairLemmas.{is_in-each_once, each_once-Contains, subset_from_All}
-use Rattle.np_first.proofs.SamePlansDeclared.{All-left, All-right, All-part, tests_declared, goal_declared, effects_declared}
-use Rattle.np_first.proofs.SamePlansPlaces.{place_below}
-use Rattle.np_first.proofs.SamePlansRange.{abs_neg, number_below, start_below}
+use Rattle.np_first_text.proofs.SamePlansDeclared.{All-left, All-right, All-part, tests_declared, goal_declared, effects_declared}
+use Rattle.np_first_text.proofs.SamePlansPlaces.{place_below}
+use Rattle.np_first_text.proofs.SamePlansRange.{abs_neg, number_below, start_below}
 use Rattle.np_first.proofs.FlatReadings.{All-first_readings, numbers_below, length-first_readings}
 use Rattle.np_first.proofs.FlatApart.{subgoals_apart}
 use Rattle.np_first.proofs.FlatNumbers.{AllPairs-cons, AllPairs-nil, no_numbers, are_numbers, net_within, are_changes}

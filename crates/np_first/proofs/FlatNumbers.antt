@@ -9,12 +9,12 @@ use Rattle.std.proofs.lemmas.List.Elements.{All-nil, All-cons, All-head, All-tai
 use Rattle.np_flat.specs.States.{put_all}
 use Rattle.np_flat.specs.Flats.{IsAscending, AreNumbers, AreBelow, AreAmounts}
 use Rattle.np_flat.proofs.Ascending.{ascending_cons, ascending_nil, ascending_put_all, All-put_all}
-use Rattle.np_first.specs.declared.syntax.Effect.{Effect}
-use Rattle.np_first.specs.Syntax.{IsEffect}
-use Rattle.np_first.specs.Counters.{most}
-use Rattle.np_first.specs.CountersOf.{signed_amount}
+use Rattle.np_first_text.specs.declared.syntax.Effect.{Effect}
+use Rattle.np_first_text.specs.Syntax.{IsEffect}
+use Rattle.np_first_text.specs.Counters.{most}
+use Rattle.np_first_text.specs.CountersOf.{signed_amount}
 use Rattle.np_first.specs.FlatOf.{net_on, changes_from}
-use Rattle.np_first.proofs.SamePlansRange.{amount_below}
+use Rattle.np_first_text.proofs.SamePlansRange.{amount_below}
 
 -- what holds of all pairs with one item at the front
 pub AllPairs-cons : {X : Type 0} (R : X → X → Type 0) (x : X) (xs : List X) → All (R x) xs → AllPairs R xs → AllPairs R (x ∷ xs)

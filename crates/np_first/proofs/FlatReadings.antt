@@ -13,7 +13,7 @@ use Rattle.std.specs.List.{list_any, position_or_len}
 use Rattle.std.specs.Ordering.{int_eq}
 use Rattle.indexmap.specs.IndexSet.{insert_all}
 use Rattle.np_first.specs.FlatOf.{Reading, same_reading, is_read, first_readings, reading_number}
-use Rattle.np_first.proofs.SamePlansDeclared.{All-left}
+use Rattle.np_first_text.proofs.SamePlansDeclared.{All-left}
 
 -- readings are the same where they are equal
 same_reading-Decides : (a b : Reading) → Decides (same_reading a b) (a ≡ b)

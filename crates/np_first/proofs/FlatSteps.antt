@@ -16,22 +16,22 @@ use Rattle.indexmap.proofs.SetLemmas.{set_all_push}
 use Rattle.np_flat.specs.declared.parts.FlatStep.{FlatStep}
 use Rattle.np_flat.specs.States.{put_in, put_all}
 use Rattle.np_flat.proofs.Ascending.{put_all-push}
-use Rattle.np_first.specs.declared.syntax.Test.{Test}
-use Rattle.np_first.specs.declared.syntax.Effect.{Effect}
-use Rattle.np_first.specs.declared.syntax.Action.{Action}
-use Rattle.np_first.specs.declared.syntax.Domain.{Domain}
-use Rattle.np_first.specs.declared.syntax.Problem.{Problem}
-use Rattle.np_first.specs.Syntax.{IsEffect, IsDomain}
-use Rattle.np_first.specs.FirstForm.{IsFirstForm}
-use Rattle.np_first.specs.Counters.{most}
-use Rattle.np_first.specs.TaskOf.{place_of}
-use Rattle.np_first.specs.CountersOf.{signed_amount}
-use Rattle.np_first.specs.Pairs.{IsProper}
+use Rattle.np_first_text.specs.declared.syntax.Test.{Test}
+use Rattle.np_first_text.specs.declared.syntax.Effect.{Effect}
+use Rattle.np_first_text.specs.declared.syntax.Action.{Action}
+use Rattle.np_first_text.specs.declared.syntax.Domain.{Domain}
+use Rattle.np_first_text.specs.declared.syntax.Problem.{Problem}
+use Rattle.np_first_text.specs.Syntax.{IsEffect, IsDomain}
+use Rattle.np_first_text.specs.FirstForm.{IsFirstForm}
+use Rattle.np_first_text.specs.Counters.{most}
+use Rattle.np_first_text.specs.TaskOf.{place_of}
+use Rattle.np_first_text.specs.CountersOf.{signed_amount}
+use Rattle.np_first_text.specs.Pairs.{IsProper}
 use Rattle.np_first.specs.FlatOf.{Reading, same_reading, reading_of, reading_number, first_readings, value_order, all_tests, readings_of, net_on, changes_from, steps_from}
 use Rattle.np_first.specs.FlatParts.{needs_by, step_by, steps_by, some_from, HasStep}
-use Rattle.np_first.proofs.SamePlansPlaces.{place_below, same_place}
+use Rattle.np_first_text.proofs.SamePlansPlaces.{place_below, same_place}
 use Rattle.np_first.proofs.FlatReadings.{first_readings-insert_all}
-use Rattle.np_first.proofs.SamePlansRange.{amount_below}
+use Rattle.np_first_text.proofs.SamePlansRange.{amount_below}
 use Rattle.np_first.proofs.FlatNumbers.{abs_sum, net_within}
 use Rattle.np_first.proofs.FlatLimits.{effects_have}
 

@@ -8,16 +8,17 @@ use Rattle.std.proofs.Math.ListN.{get_or-map}
 use Rattle.np_frac.specs.Fractions.{whole}
 use Rattle.np_model.specs.States.{State}
 use Rattle.np_model.specs.Plans.{run_from, cost_from}
-use Rattle.np_first.specs.declared.counters.Counters.{Counters}
-use Rattle.np_first.specs.declared.syntax.Domain.{Domain}
-use Rattle.np_first.specs.declared.syntax.Problem.{Problem}
-use Rattle.np_first.specs.FirstForm.{IsFirstForm}
-use Rattle.np_first.specs.Counters.{Values, moved, next, run, IsWithin as IsWithinMoves, IsSpentOnMoves, AreDistinct as AreDistinctValues}
-use Rattle.np_first.specs.TaskOf.{task_of, step_of}
-use Rattle.np_first.specs.CountersOf.{counters_of, move_of}
-use Rattle.np_first.specs.StateOf.{state_of}
+use Rattle.np_first_text.specs.declared.counters.Counters.{Counters}
+use Rattle.np_first_text.specs.declared.syntax.Domain.{Domain}
+use Rattle.np_first_text.specs.declared.syntax.Problem.{Problem}
+use Rattle.np_first_text.specs.FirstForm.{IsFirstForm}
+use Rattle.np_first_text.specs.Counters.{Values, moved, next, run, IsWithin as IsWithinMoves, IsSpentOnMoves, AreDistinct as AreDistinctValues}
+use Rattle.np_first_text.specs.TaskOf.{task_of, step_of}
+use Rattle.np_first_text.specs.CountersOf.{counters_of, move_of}
+use Rattle.np_first_text.specs.StateOf.{state_of}
 use Rattle.np_first.specs.Solutions.{IsWithin, IsSpent, AreDistinct}
-use Rattle.np_first.specs.Pairs.{IsPair, IsNumbered}
+use Rattle.np_first_text.specs.Pairs.{IsPair}
+use Rattle.np_first.specs.Pairs.{IsNumbered}
 use Rattle.np_first.specs.declared.breadth_first.End.{End}
 use Rattle.np_first.specs.declared.breadth_first.End.TheVariants.{Plan, NoPlan, Spent}
 use Rattle.np_flat.specs.declared.parts.Parts.{Parts}
@@ -36,10 +37,10 @@ use Rattle.np_first.specs.Outcomes.{claim_after, IsTrueEnd, IsOutcomeOf}
 use Rattle.np_first.proofs.SearchExpanded.{spent_of}
 use Rattle.np_first.proofs.CertifiedLaws.{certified_to, certified_all, spent_on_flat}
 use Rattle.np_first.proofs.SearchCover.{further_cover}
-use Rattle.np_first.proofs.SamePlansStart.{start_is, values_are}
-use Rattle.np_first.proofs.SamePlansSteps.{goal_is}
-use Rattle.np_first.proofs.SamePlansRuns.{run_is, cost_is, some_from, mapped_from}
-use Rattle.np_first.proofs.SamePlans.{length-run, whole_at_most, bound_is, cheapest_is, unsolvable_is}
+use Rattle.np_first_text.proofs.SamePlansStart.{start_is, values_are}
+use Rattle.np_first_text.proofs.SamePlansSteps.{goal_is}
+use Rattle.np_first_text.proofs.SamePlansRuns.{run_is, cost_is, some_from, mapped_from}
+use Rattle.np_first_text.proofs.SamePlans.{length-run, whole_at_most, bound_is, cheapest_is, unsolvable_is}
 
 -- the numbers of moves that were made name moves
 pub numbers_name : (c : Counters) (numbers : List ℕ) (values end : Values) → run c numbers values ≡ Some end → All (λ n. n < length c.moves) numbers

@@ -15,9 +15,9 @@ use Rattle.std.specs.Option.{option_map_or}
 use Rattle.std.specs.Str.{bytes_eq}
 use Rattle.indexmap.specs.IndexSet.{insert_key, insert_all}
 use Rattle.np_first.specs.PairNames.{each_once}
-use Rattle.np_first.specs.TaskOf.{place_of, number_of}
-use Rattle.np_first.specs.CountersOf.{start_value}
-use Rattle.np_first.specs.declared.syntax.Value.{Value}
+use Rattle.np_first_text.specs.TaskOf.{place_of, number_of}
+use Rattle.np_first_text.specs.CountersOf.{start_value}
+use Rattle.np_first_text.specs.declared.syntax.Value.{Value}
 
 -- whether a name is among the names
 abbrev pub is_in : List (List ℕ) → List ℕ → Bool

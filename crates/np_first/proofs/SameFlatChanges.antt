@@ -9,12 +9,12 @@ use Rattle.std.proofs.lemmas.Option.{same_Some}
 use Rattle.std.proofs.lemmas.List.{length-set, length_push, get_or-set_same, get_or-set_other, get_or_at, set_at}
 use Rattle.std.proofs.lemmas.Slice.Eq.{bytes_eq-Decides}
 use Rattle.np_flat.specs.States.{value_at, all_changed as all_values_changed}
-use Rattle.np_first.specs.declared.syntax.Effect.{Effect}
-use Rattle.np_first.specs.Counters.{Values, changed, all_changed}
-use Rattle.np_first.specs.TaskOf.{place_of}
-use Rattle.np_first.specs.CountersOf.{signed_amount, counter_change}
+use Rattle.np_first_text.specs.declared.syntax.Effect.{Effect}
+use Rattle.np_first_text.specs.Counters.{Values, changed, all_changed}
+use Rattle.np_first_text.specs.TaskOf.{place_of}
+use Rattle.np_first_text.specs.CountersOf.{signed_amount, counter_change}
 use Rattle.np_first.specs.FlatOf.{net_on, changes_from}
-use Rattle.np_first.proofs.SamePlansPlaces.{place_below, place_get}
+use Rattle.np_first_text.proofs.SamePlansPlaces.{place_below, place_get}
 use Rattle.np_first.proofs.SameFlatLists.{map_agree}
 use Rattle.np_first.proofs.SameFlatOrder.{value_of}
 

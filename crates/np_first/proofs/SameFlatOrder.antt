@@ -6,16 +6,16 @@ use Rattle.std.proofs.lemmas.List.{get_or-map, ext_get_or}
 use Rattle.std.proofs.lemmas.List.Elements.{All-contains, Contains-get_or}
 use Rattle.np_flat.specs.declared.state.FlatState.{FlatState}
 use Rattle.np_flat.specs.States.{value_at}
-use Rattle.np_first.specs.declared.syntax.Domain.{Domain}
-use Rattle.np_first.specs.declared.syntax.Problem.{Problem}
-use Rattle.np_first.specs.FirstForm.{IsFirstForm, tested}
-use Rattle.np_first.specs.Counters.{Values}
-use Rattle.np_first.specs.TaskOf.{place_of, term_of}
-use Rattle.np_first.specs.CountersOf.{start_value, counters_of}
+use Rattle.np_first_text.specs.declared.syntax.Domain.{Domain}
+use Rattle.np_first_text.specs.declared.syntax.Problem.{Problem}
+use Rattle.np_first_text.specs.FirstForm.{IsFirstForm, tested}
+use Rattle.np_first_text.specs.Counters.{Values}
+use Rattle.np_first_text.specs.TaskOf.{place_of, term_of}
+use Rattle.np_first_text.specs.CountersOf.{start_value, counters_of}
 use Rattle.np_first.specs.FlatOf.{value_order, flat_of, flat_state}
 use Rattle.np_first.proofs.PairLemmas.{Contains-each_once, each_once-Contains}
-use Rattle.np_first.proofs.SamePlansPlaces.{place_below, place_get, place_is}
-use Rattle.np_first.proofs.SamePlansDeclared.{length-start}
+use Rattle.np_first_text.proofs.SamePlansPlaces.{place_below, place_get, place_is}
+use Rattle.np_first_text.proofs.SamePlansDeclared.{length-start}
 use Rattle.np_first.proofs.SameFlatLists.{map_agree, map_apart}
 
 -- the functions in the order are declared

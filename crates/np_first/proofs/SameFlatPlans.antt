@@ -11,19 +11,19 @@ use Rattle.np_model.specs.Plans.{start_of, cost_from, IsPlan, IsUnsolvable, NoPl
 use Rattle.np_flat.specs.declared.state.FlatState.{FlatState}
 use Rattle.np_flat.specs.States.{is_goal}
 use Rattle.np_flat.specs.Plans.{run_from, cost_sum, Leads, IsPlan as IsFlatPlan, Reaches as ReachesFlat}
-use Rattle.np_first.specs.declared.syntax.Domain.{Domain}
-use Rattle.np_first.specs.declared.syntax.Problem.{Problem}
-use Rattle.np_first.specs.FirstForm.{IsFirstForm}
-use Rattle.np_first.specs.Counters.{Values, run, Leads as LeadsCounters}
-use Rattle.np_first.specs.TaskOf.{task_of, step_of}
-use Rattle.np_first.specs.CountersOf.{counters_of}
-use Rattle.np_first.specs.StateOf.{state_of}
-use Rattle.np_first.specs.SamePlans.{IsMovesOf, IsPlanOf}
+use Rattle.np_first_text.specs.declared.syntax.Domain.{Domain}
+use Rattle.np_first_text.specs.declared.syntax.Problem.{Problem}
+use Rattle.np_first_text.specs.FirstForm.{IsFirstForm}
+use Rattle.np_first_text.specs.Counters.{Values, run, Leads as LeadsCounters}
+use Rattle.np_first_text.specs.TaskOf.{task_of, step_of}
+use Rattle.np_first_text.specs.CountersOf.{counters_of}
+use Rattle.np_first_text.specs.StateOf.{state_of}
+use Rattle.np_first_text.specs.SamePlans.{IsMovesOf, IsPlanOf}
 use Rattle.np_first.specs.FlatOf.{flat_of, flat_state}
 use Rattle.np_first.specs.SameFlat.{Corresponds, HasFlat, HasState}
-use Rattle.np_first.proofs.SamePlansRuns.{mapped_from}
-use Rattle.np_first.proofs.SamePlans.{length-run, run_of, run_moves, plan_of, plan_is, bound_is, unsolvable_is}
-use Rattle.np_first.proofs.SamePlansStart.{values_are}
+use Rattle.np_first_text.proofs.SamePlansRuns.{mapped_from}
+use Rattle.np_first_text.proofs.SamePlans.{length-run, run_of, run_moves, plan_of, plan_is, bound_is, unsolvable_is}
+use Rattle.np_first_text.proofs.SamePlansStart.{values_are}
 use Rattle.np_first.proofs.SameFlatOrder.{flat_start_is, flat_values_are}
 use Rattle.np_first.proofs.SameFlatTests.{flat_goal_is}
 use Rattle.np_first.proofs.SameFlatSteps.{flat_run_is, flat_cost_is, flat_steps_are}

@@ -6,17 +6,17 @@ use Rattle.np_flat.specs.declared.state.FlatState.{FlatState}
 use Rattle.np_flat.specs.declared.parts.FlatStep.{FlatStep}
 use Rattle.np_flat.specs.States.{meets as meets_step, state_after, next}
 use Rattle.np_flat.specs.Plans.{cost_of, run_from, cost_sum, step_at}
-use Rattle.np_first.specs.declared.syntax.Action.{Action}
-use Rattle.np_first.specs.declared.syntax.Domain.{Domain}
-use Rattle.np_first.specs.declared.syntax.Problem.{Problem}
-use Rattle.np_first.specs.FirstForm.{IsFirstForm}
-use Rattle.np_first.specs.Counters.{Values, all_changed, moved, next as next_values, run}
-use Rattle.np_first.specs.TaskOf.{step_of}
-use Rattle.np_first.specs.CountersOf.{counter_change, move_of, counters_of}
+use Rattle.np_first_text.specs.declared.syntax.Action.{Action}
+use Rattle.np_first_text.specs.declared.syntax.Domain.{Domain}
+use Rattle.np_first_text.specs.declared.syntax.Problem.{Problem}
+use Rattle.np_first_text.specs.FirstForm.{IsFirstForm}
+use Rattle.np_first_text.specs.Counters.{Values, all_changed, moved, next as next_values, run}
+use Rattle.np_first_text.specs.TaskOf.{step_of}
+use Rattle.np_first_text.specs.CountersOf.{counter_change, move_of, counters_of}
 use Rattle.np_first.specs.FlatOf.{value_order, flat_step, steps_from, flat_of, flat_state}
-use Rattle.np_first.proofs.SamePlansDeclared.{length-start}
-use Rattle.np_first.proofs.SamePlansSteps.{length-next}
-use Rattle.np_first.proofs.SamePlansRuns.{some_from}
+use Rattle.np_first_text.proofs.SamePlansDeclared.{length-start}
+use Rattle.np_first_text.proofs.SamePlansSteps.{length-next}
+use Rattle.np_first_text.proofs.SamePlansRuns.{some_from}
 use Rattle.np_first.proofs.SameFlatOrder.{order_declared, with_values, state_is}
 use Rattle.np_first.proofs.SameFlatTests.{flat_needs_are}
 use Rattle.np_first.proofs.SameFlatChanges.{values_changed}

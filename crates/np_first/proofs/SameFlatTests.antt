@@ -12,16 +12,16 @@ use Rattle.std.proofs.lemmas.Option.{slice_get-map}
 use Rattle.std.proofs.lemmas.List.Elements.{All-head, All-tail, All-nil, All-cons, All-contains}
 use Rattle.np_flat.specs.declared.state.FlatState.{FlatState}
 use Rattle.np_flat.specs.States.{value_at, subgoal_holds, holds, is_goal}
-use Rattle.np_first.specs.declared.syntax.Test.{Test}
-use Rattle.np_first.specs.declared.syntax.Action.{Action}
-use Rattle.np_first.specs.declared.syntax.Domain.{Domain}
-use Rattle.np_first.specs.declared.syntax.Problem.{Problem}
-use Rattle.np_first.specs.FirstForm.{IsFirstForm}
-use Rattle.np_first.specs.Counters.{Values, meets, is_goal as is_counters_goal}
-use Rattle.np_first.specs.TaskOf.{number_of}
-use Rattle.np_first.specs.CountersOf.{counter_need, counters_of}
+use Rattle.np_first_text.specs.declared.syntax.Test.{Test}
+use Rattle.np_first_text.specs.declared.syntax.Action.{Action}
+use Rattle.np_first_text.specs.declared.syntax.Domain.{Domain}
+use Rattle.np_first_text.specs.declared.syntax.Problem.{Problem}
+use Rattle.np_first_text.specs.FirstForm.{IsFirstForm}
+use Rattle.np_first_text.specs.Counters.{Values, meets, is_goal as is_counters_goal}
+use Rattle.np_first_text.specs.TaskOf.{number_of}
+use Rattle.np_first_text.specs.CountersOf.{counter_need, counters_of}
 use Rattle.np_first.specs.FlatOf.{Reading, value_order, reading_of, same_reading, is_read, first_readings, reading_number, all_tests, readings_of, subgoal_of, subgoals_of, flat_of, flat_state}
-use Rattle.np_first.proofs.SamePlansDeclared.{All-left, All-right, All-part, goal_declared, tests_declared}
+use Rattle.np_first_text.proofs.SamePlansDeclared.{All-left, All-right, All-part, goal_declared, tests_declared}
 use Rattle.np_first.proofs.SameFlatLists.{All-mapped, list_all-put_all}
 use Rattle.np_first.proofs.SameFlatOrder.{declared_ordered, value_is}
 

@@ -3,10 +3,10 @@ use Rattle.std.proofs.Common.{◌≡◌, ℕ, ◌+◌, ◌^◌, ◌≤◌, true,
 use Rattle.std.proofs.lemmas.List.{length-take}
 use Rattle.std.proofs.lemmas.Option.{same_Some, slice_get_within, option_and_then_some}
 use Rattle.std.proofs.lemmas.Bool.{cases_lt}
-use Rattle.np_first.specs.declared.counters.Counters.{Counters}
+use Rattle.np_first_text.specs.declared.counters.Counters.{Counters}
 use Rattle.np_first.specs.declared.breadth_first.End.TheVariants.{Plan, NoPlan, Spent}
 use Rattle.np_first.specs.declared.breadth_first.tree.Node.{Node}
-use Rattle.np_first.specs.Counters.{Values, next, run, is_goal, Leads, IsBlocked, NoneShorter}
+use Rattle.np_first_text.specs.Counters.{Values, next, run, is_goal, Leads, IsBlocked, NoneShorter}
 use Rattle.np_first.specs.Explored.{AreExpandedTo}
 use Rattle.np_first.specs.Found.{expanded_in, IsEnd}
 use Rattle.np_first.specs.SearchTree.{IsEntry, IsKept, IsFrontier, IsPath}

@@ -2,9 +2,9 @@
 use Rattle.std.proofs.Common.{◌≡◌, ℕ, zero, suc, ◌≤◌, ◌<◌, ℤ, unsigned_abs, [], ◌∷◌, length, Some, slice_get, All, refl, sym, ap, subst, ◌∙◌, arith}
 use Rattle.std.proofs.lemmas.Option.{same_Some}
 use Rattle.std.proofs.lemmas.List.Elements.{All-weaker}
-use Rattle.np_first.specs.declared.counters.Counters.{Counters}
+use Rattle.np_first_text.specs.declared.counters.Counters.{Counters}
 use Rattle.np_first.specs.declared.breadth_first.tree.Node.{Node}
-use Rattle.np_first.specs.Counters.{most}
+use Rattle.np_first_text.specs.Counters.{most}
 use Rattle.np_first.specs.SearchTree.{size_at, root, IsFrontier}
 
 -- one element has the first place

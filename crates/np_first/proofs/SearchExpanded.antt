@@ -7,9 +7,9 @@ use Rattle.std.proofs.lemmas.List.Elements.{All-map}
 use Rattle.std.proofs.lemmas.Slice.Zip.{length-zip, firsts-zip}
 use Rattle.std.proofs.lemmas.Option.{same_Some, slice_get_within, slice_get-get_or, slice_get-map}
 use Rattle.std.proofs.lemmas.Bool.{cases_lt}
-use Rattle.np_first.specs.declared.counters.Counters.{Counters}
+use Rattle.np_first_text.specs.declared.counters.Counters.{Counters}
 use Rattle.np_first.specs.declared.breadth_first.tree.Node.{Node}
-use Rattle.np_first.specs.Counters.{Values, next, is_goal, AreDistinct, IsSpentOnMoves, IsWithin}
+use Rattle.np_first_text.specs.Counters.{Values, next, is_goal, AreDistinct, IsSpentOnMoves, IsWithin}
 use Rattle.np_first.specs.Explored.{Expanded, IsReachedBy, IsAmong, AreExpanded, AreExpandedTo, AreAllExpanded}
 use Rattle.np_first.specs.Found.{expanded_in, IsSpentWith}
 use Rattle.np_first.specs.SearchTree.{IsEntry, IsKept, IsFrontier}

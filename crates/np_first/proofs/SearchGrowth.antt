@@ -2,9 +2,9 @@
 use Rattle.std.proofs.Common.{◌≡◌, ℕ, zero, suc, ◌+◌, ◌≤◌, ◌<◌, List, [], ◌∷◌, ◌++◌, length, Some, slice_get, Contains, refl, sym, ap, ◌∙◌, subst, arith, ◌⊎◌, inl, inr, ⊎_elim}
 use Rattle.std.proofs.lemmas.List.{length_push}
 use Rattle.std.proofs.lemmas.Option.{same_Some, slice_get_within, slice_get-get_or, get_or_from_slice_get}
-use Rattle.np_first.specs.declared.counters.Counters.{Counters}
+use Rattle.np_first_text.specs.declared.counters.Counters.{Counters}
 use Rattle.np_first.specs.declared.breadth_first.tree.Node.{Node}
-use Rattle.np_first.specs.Counters.{Values, next, AreDistinct}
+use Rattle.np_first_text.specs.Counters.{Values, next, AreDistinct}
 use Rattle.np_first.specs.SearchTree.{IsEntry, IsStep, IsKept, IsSized, IsTree, IsFrontier}
 
 -- the places before a new last one stay

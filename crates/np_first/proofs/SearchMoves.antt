@@ -5,8 +5,8 @@ use mir.Syntax.{w128}
 use mir.Val.{SFits, to_z, of_z}
 use Rattle.std.proofs.lemmas.List.{length-set, length-take-le, take_more}
 use Rattle.std.proofs.lemmas.List.Elements.{All-head, All-tail, All-set, All-weaker, All-take}
-use Rattle.np_first.specs.declared.counters.Change.{Change}
-use Rattle.np_first.specs.Counters.{Values, changed, all_changed, most, IsChangeOf}
+use Rattle.np_first_text.specs.declared.counters.Change.{Change}
+use Rattle.np_first_text.specs.Counters.{Values, changed, all_changed, most, IsChangeOf}
 use Rattle.np_first.specs.SearchTree.{AreSmall}
 
 -- one more change

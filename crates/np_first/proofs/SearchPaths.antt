@@ -3,9 +3,9 @@ use Rattle.std.proofs.Common.{◌≡◌, ℕ, zero, suc, ◌+◌, ◌≤◌, ◌
 use Rattle.std.specs.Option.{option_and_then}
 use Rattle.std.proofs.lemmas.List.{length_push, append_assoc, reverse-append}
 use Rattle.std.proofs.lemmas.Option.{same_Some, slice_get_within, slice_get-get_or, option_and_then_some}
-use Rattle.np_first.specs.declared.counters.Counters.{Counters}
+use Rattle.np_first_text.specs.declared.counters.Counters.{Counters}
 use Rattle.np_first.specs.declared.breadth_first.tree.Node.{Node}
-use Rattle.np_first.specs.Counters.{Values, next, run, IsWithin}
+use Rattle.np_first_text.specs.Counters.{Values, next, run, IsWithin}
 use Rattle.np_first.specs.SearchTree.{IsEntry, IsTree, IsPath, here, further}
 
 -- a run with one more move

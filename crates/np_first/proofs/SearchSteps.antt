@@ -4,11 +4,11 @@ use Rattle.std.specs.List.{list_all}
 use Rattle.std.specs.Option.{option_and_then}
 use Rattle.std.proofs.lemmas.Option.{same_Some, slice_get_within, slice_get-get_or, slice_get-map, slice_get_read, get_or_from_slice_get, option_and_then_some, cond_some}
 use Rattle.std.proofs.lemmas.Bool.{cases_lt}
-use Rattle.np_first.specs.declared.counters.Counters.{Counters}
-use Rattle.np_first.specs.declared.counters.Move.{Move}
+use Rattle.np_first_text.specs.declared.counters.Counters.{Counters}
+use Rattle.np_first_text.specs.declared.counters.Move.{Move}
 use Rattle.np_first.specs.declared.breadth_first.tree.Node.{Node}
 use Rattle.np_first.specs.declared.breadth_first.tree.Tree.{Tree}
-use Rattle.np_first.specs.Counters.{Values, meets, all_changed, moved, next, is_goal, most, IsMoveOf, IsInRange}
+use Rattle.np_first_text.specs.Counters.{Values, meets, all_changed, moved, next, is_goal, most, IsMoveOf, IsInRange}
 use Rattle.np_first.specs.SearchTree.{states_of, size_at, AreSmall, IsEntry, IsKept, IsSized, IsFrontier, Adds, StepTaken}
 use Rattle.np_first.proofs.SearchMoves.{length-all_changed, small_weaker, small_all_changed}
 use Rattle.np_first.proofs.SearchGrowth.{placed_contained, entry_kept, frontier_added, get_at_push}

@@ -2,10 +2,10 @@
 use Rattle.std.specs.Prelude.{ℕ, ◌^◌, ◌≤◌, List, length}
 use Rattle.np_cert.specs.declared.certificate.Limit.TheVariants.{Number, Absent}
 use Rattle.np_cert.specs.Layout.{certificate_text}
-use Rattle.np_first.specs.declared.syntax.Domain.{Domain}
-use Rattle.np_first.specs.declared.syntax.Problem.{Problem}
-use Rattle.np_first.specs.CountersOf.{counters_of}
-use Rattle.np_first.specs.Pairs.{IsPair}
+use Rattle.np_first_text.specs.declared.syntax.Domain.{Domain}
+use Rattle.np_first_text.specs.declared.syntax.Problem.{Problem}
+use Rattle.np_first_text.specs.CountersOf.{counters_of}
+use Rattle.np_first_text.specs.Pairs.{IsPair}
 use Rattle.np_first.specs.FlatOf.{flat_of}
 use Rattle.np_first.specs.Explored.{Expanded, AreExpandedTo, AreAllExpanded}
 use Rattle.np_first.specs.Evidence.{certificate_of}

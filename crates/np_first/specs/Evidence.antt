@@ -9,12 +9,12 @@ use Rattle.np_cert.specs.declared.certificate.Certificate.{Certificate}
 use Rattle.np_first.specs.Certified.{less}
 use Rattle.np_cert.specs.Valid.{IsValid}
 use Rattle.np_cert.specs.Text.{IsWritten}
-use Rattle.np_first.specs.declared.syntax.Domain.{Domain}
-use Rattle.np_first.specs.declared.syntax.Problem.{Problem}
-use Rattle.np_first.specs.Syntax.{IsDomain, IsProblem}
-use Rattle.np_first.specs.FirstForm.{IsFirstForm}
-use Rattle.np_first.specs.CountersOf.{counters_of}
-use Rattle.np_first.specs.Pairs.{IsProper}
+use Rattle.np_first_text.specs.declared.syntax.Domain.{Domain}
+use Rattle.np_first_text.specs.declared.syntax.Problem.{Problem}
+use Rattle.np_first_text.specs.Syntax.{IsDomain, IsProblem}
+use Rattle.np_first_text.specs.FirstForm.{IsFirstForm}
+use Rattle.np_first_text.specs.CountersOf.{counters_of}
+use Rattle.np_first_text.specs.Pairs.{IsProper}
 use Rattle.np_first.specs.FlatOf.{flat_of, flat_state}
 use Rattle.np_first.specs.Explored.{Expanded, AreExpandedTo, AreAllExpanded}
 

@@ -1,7 +1,7 @@
 -- What a search has expanded: the values, each with the number of moves that led there.
 use Rattle.std.specs.Prelude.{◌≡◌, ℕ, ◌+◌, ◌^◌, ◌≤◌, ◌⊎◌, false, List, map, length, All, Contains, Some}
-use Rattle.np_first.specs.declared.counters.Counters.{Counters}
-use Rattle.np_first.specs.Counters.{Values, next, run, is_goal, AreDistinct}
+use Rattle.np_first_text.specs.declared.counters.Counters.{Counters}
+use Rattle.np_first_text.specs.Counters.{Values, next, run, is_goal, AreDistinct}
 
 -- values with the number of moves to them
 abbrev pub Expanded : Type 0

@@ -10,16 +10,16 @@ use Rattle.np_flat.specs.declared.parts.Subgoal.TheVariants as subgoal
 use Rattle.np_flat.specs.declared.parts.FlatStep.{FlatStep}
 use Rattle.np_flat.specs.declared.parts.Parts.{Parts}
 use Rattle.np_flat.specs.States.{put_all, value_at}
-use Rattle.np_first.specs.declared.syntax.Test.{Test}
-use Rattle.np_first.specs.declared.syntax.Effect.{Effect}
-use Rattle.np_first.specs.declared.syntax.Action.{Action}
-use Rattle.np_first.specs.declared.syntax.Domain.{Domain}
-use Rattle.np_first.specs.declared.syntax.Problem.{Problem}
-use Rattle.np_first.specs.FirstForm.{tested}
+use Rattle.np_first_text.specs.declared.syntax.Test.{Test}
+use Rattle.np_first_text.specs.declared.syntax.Effect.{Effect}
+use Rattle.np_first_text.specs.declared.syntax.Action.{Action}
+use Rattle.np_first_text.specs.declared.syntax.Domain.{Domain}
+use Rattle.np_first_text.specs.declared.syntax.Problem.{Problem}
+use Rattle.np_first_text.specs.FirstForm.{tested}
 use Rattle.np_first.specs.PairNames.{each_once}
-use Rattle.np_first.specs.TaskOf.{number_of, place_of, term_of, step_of}
-use Rattle.np_first.specs.CountersOf.{start_value, signed_amount}
-use Rattle.np_first.specs.Counters.{Values}
+use Rattle.np_first_text.specs.TaskOf.{number_of, place_of, term_of, step_of}
+use Rattle.np_first_text.specs.CountersOf.{start_value, signed_amount}
+use Rattle.np_first_text.specs.Counters.{Values}
 
 -- the functions by first reading: value n is the n-th one's
 abbrev pub value_order : Domain → Problem → List (List ℕ)

@@ -3,10 +3,10 @@ use Rattle.std.specs.Prelude.{ℕ, suc, ◌^◌, ◌<◌, ℤ, pos, List, [], �
 use Rattle.std.specs.Ordering.{int_eq}
 use Rattle.np_flat.specs.declared.parts.FlatStep.{FlatStep}
 use Rattle.np_flat.specs.States.{put_all}
-use Rattle.np_first.specs.declared.syntax.Test.{Test}
-use Rattle.np_first.specs.declared.syntax.Action.{Action}
-use Rattle.np_first.specs.Syntax.{IsAction}
-use Rattle.np_first.specs.TaskOf.{step_of}
+use Rattle.np_first_text.specs.declared.syntax.Test.{Test}
+use Rattle.np_first_text.specs.declared.syntax.Action.{Action}
+use Rattle.np_first_text.specs.Syntax.{IsAction}
+use Rattle.np_first_text.specs.TaskOf.{step_of}
 use Rattle.np_first.specs.FlatOf.{Reading, reading_of, reading_number, changes_from}
 
 -- the subgoals of tests, ascending, each once

@@ -1,12 +1,12 @@
 -- What a search finds, and what it has expanded on the way.
 use Rattle.std.specs.Prelude.{◌≡◌, ℕ, ◌≤◌, false, List, length, map, take, Contains}
 use Rattle.std.specs.List.{zip}
-use Rattle.np_first.specs.declared.counters.Counters.{Counters}
+use Rattle.np_first_text.specs.declared.counters.Counters.{Counters}
 use Rattle.np_first.specs.declared.breadth_first.Found.{Found}
 use Rattle.np_first.specs.declared.breadth_first.End.{End}
 use Rattle.np_first.specs.declared.breadth_first.End.TheVariants.{Plan, NoPlan, Spent}
 use Rattle.np_first.specs.declared.breadth_first.tree.Node.{Node}
-use Rattle.np_first.specs.Counters.{Values, IsShortest, IsBlocked, NoneShorter, IsWithin, is_goal}
+use Rattle.np_first_text.specs.Counters.{Values, IsShortest, IsBlocked, NoneShorter, IsWithin, is_goal}
 use Rattle.np_first.specs.Explored.{Expanded, AreExpandedTo, AreAllExpanded}
 use Rattle.np_first.specs.SearchTree.{states_of}
 

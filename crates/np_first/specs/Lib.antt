@@ -1,9 +1,6 @@
 pub mod CertifiedLaws
-pub mod Counters
-pub mod CountersOf
 pub mod Evidence
 pub mod Explored
-pub mod FirstForm
 pub mod FlatOf
 pub mod FlatParts
 pub mod Found
@@ -11,13 +8,7 @@ pub mod Outcomes
 pub mod PairNames
 pub mod Pairs
 pub mod PlanText
-pub mod ReadingAnswers
-pub mod ReadingForm
 pub mod SameFlat
-pub mod SamePlans
 pub mod SearchTree
 pub mod Solutions
-pub mod StateOf
-pub mod Syntax
-pub mod TaskOf
 pub mod Certified

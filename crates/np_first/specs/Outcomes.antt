@@ -7,12 +7,12 @@ use Rattle.np_cert.specs.declared.certificate.Entry.{Entry}
 use Rattle.np_cert.specs.Text.{IsThin}
 use Rattle.np_cert.specs.Layout.{certificate_text}
 use Rattle.np_first.specs.Certified.{IsCertifiedBy, IsSpentOn}
-use Rattle.np_first.specs.declared.syntax.Domain.{Domain}
-use Rattle.np_first.specs.declared.syntax.Problem.{Problem}
+use Rattle.np_first_text.specs.declared.syntax.Domain.{Domain}
+use Rattle.np_first_text.specs.declared.syntax.Problem.{Problem}
 use Rattle.np_first.specs.declared.breadth_first.End.{End}
 use Rattle.np_first.specs.declared.breadth_first.End.TheVariants.{Plan, NoPlan, Spent}
 use Rattle.np_first.specs.declared.pair.Outcome.{Outcome}
-use Rattle.np_first.specs.TaskOf.{task_of}
+use Rattle.np_first_text.specs.TaskOf.{task_of}
 use Rattle.np_first.specs.FlatOf.{flat_of}
 use Rattle.np_first.specs.PlanText.{plan_text}
 use Rattle.np_first.specs.Solutions.{IsCheapest, IsSpent}

@@ -2,10 +2,10 @@
 use Rattle.std.specs.Prelude.{◌≡◌, ℕ, List, []}
 use Rattle.std.specs.Str.{bytes_eq}
 use Rattle.indexmap.specs.IndexSet.{insert_all}
-use Rattle.np_first.specs.declared.syntax.Domain.{Domain}
-use Rattle.np_first.specs.declared.syntax.Problem.{Problem}
+use Rattle.np_first_text.specs.declared.syntax.Domain.{Domain}
+use Rattle.np_first_text.specs.declared.syntax.Problem.{Problem}
 use Rattle.np_first.specs.declared.pair.names.Names.{Names}
-use Rattle.np_first.specs.FirstForm.{action_names, tested, affected, valued}
+use Rattle.np_first_text.specs.FirstForm.{action_names, tested, affected, valued}
 
 -- each name once, in the order in which they first come
 abbrev pub each_once : List (List ℕ) → List (List ℕ)

@@ -1,8 +1,8 @@
 -- The text of a plan.
 use Rattle.std.specs.Prelude.{ℕ, List, [], ◌++◌, codes, slice_index_or}
 use Rattle.std.specs.List.{flat_map}
-use Rattle.np_first.specs.declared.syntax.Domain.{Domain}
-use Rattle.np_first.specs.FirstForm.{action_names}
+use Rattle.np_first_text.specs.declared.syntax.Domain.{Domain}
+use Rattle.np_first_text.specs.FirstForm.{action_names}
 
 -- the line of the action of this number
 abbrev pub line_of : Domain → ℕ → List ℕ

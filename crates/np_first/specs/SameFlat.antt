@@ -7,16 +7,16 @@ use Rattle.np_model.specs.Plans.{IsPlan, Reaches}
 use Rattle.np_flat.specs.declared.state.FlatState.{FlatState}
 use Rattle.np_flat.specs.Plans.{IsPlan as IsFlatPlan, Reaches as ReachesFlat}
 use Rattle.np_flat.specs.Flats.{IsFlat}
-use Rattle.np_first.specs.declared.syntax.Domain.{Domain}
-use Rattle.np_first.specs.declared.syntax.Problem.{Problem}
-use Rattle.np_first.specs.Syntax.{IsDomain, IsProblem}
-use Rattle.np_first.specs.FirstForm.{IsFirstForm}
-use Rattle.np_first.specs.Counters.{Values}
-use Rattle.np_first.specs.TaskOf.{task_of}
-use Rattle.np_first.specs.CountersOf.{counters_of}
-use Rattle.np_first.specs.StateOf.{state_of}
-use Rattle.np_first.specs.SamePlans.{Fits}
-use Rattle.np_first.specs.Pairs.{IsProper}
+use Rattle.np_first_text.specs.declared.syntax.Domain.{Domain}
+use Rattle.np_first_text.specs.declared.syntax.Problem.{Problem}
+use Rattle.np_first_text.specs.Syntax.{IsDomain, IsProblem}
+use Rattle.np_first_text.specs.FirstForm.{IsFirstForm}
+use Rattle.np_first_text.specs.Counters.{Values}
+use Rattle.np_first_text.specs.TaskOf.{task_of}
+use Rattle.np_first_text.specs.CountersOf.{counters_of}
+use Rattle.np_first_text.specs.StateOf.{state_of}
+use Rattle.np_first_text.specs.SamePlans.{Fits}
+use Rattle.np_first_text.specs.Pairs.{IsProper}
 use Rattle.np_first.specs.FlatOf.{flat_of, flat_state}
 
 -- the flat task keeps what every flat task keeps

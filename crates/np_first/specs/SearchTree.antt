@@ -1,9 +1,9 @@
 -- What a search keeps: the values that it reached, in the order of discovery, and how it came to each.
 use Rattle.std.specs.Prelude.{◌≡◌, ℕ, ◌+◌, ◌*◌, ◌^◌, ◌≤◌, ◌<◌, ◌⊎◌, false, unsigned_abs, List, [], ◌∷◌, ◌++◌, length, map, All, Contains, Some, slice_get, vec_items}
-use Rattle.np_first.specs.declared.counters.Counters.{Counters}
+use Rattle.np_first_text.specs.declared.counters.Counters.{Counters}
 use Rattle.np_first.specs.declared.breadth_first.tree.Node.{Node}
 use Rattle.np_first.specs.declared.breadth_first.tree.Tree.{Tree}
-use Rattle.np_first.specs.Counters.{Values, next, is_goal, most, AreDistinct}
+use Rattle.np_first_text.specs.Counters.{Values, next, is_goal, most, AreDistinct}
 
 -- the values that were reached
 abbrev pub states_of : Tree → List Values

@@ -4,9 +4,9 @@ use Rattle.np_frac.specs.Fractions.{Fraction, whole}
 use Rattle.np_model.specs.declared.task.TaskParts.{TaskParts}
 use Rattle.np_model.specs.States.{State}
 use Rattle.np_model.specs.Plans.{IsPlan, NoPlanBelow, Reaches, IsAtMost, is_goal}
-use Rattle.np_first.specs.declared.syntax.Domain.{Domain}
-use Rattle.np_first.specs.declared.syntax.Problem.{Problem}
-use Rattle.np_first.specs.TaskOf.{task_of, step_of}
+use Rattle.np_first_text.specs.declared.syntax.Domain.{Domain}
+use Rattle.np_first_text.specs.declared.syntax.Problem.{Problem}
+use Rattle.np_first_text.specs.TaskOf.{task_of, step_of}
 use Rattle.np_first.specs.PlanText.{plan_text}
 
 -- the lines of the plan name a plan of the pair's task, this is its cost, and no plan of any length costs less

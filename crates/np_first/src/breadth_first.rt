@@ -1,14 +1,14 @@
 //! The search for a shortest list of moves, breadth first.
 ghost use Rattle.std.specs.Prelude.{◌≡◌, ◌^◌, ◌≤◌, ◌<◌, ◌+◌, IfOk, OnOk, Some, false, length, slice_get};
-ghost use Rattle.np_first.specs.Counters.{IsInRange, Values, is_goal};
+ghost use Rattle.np_first_text.specs.Counters.{IsInRange, Values, is_goal};
 ghost use Rattle.np_first.specs.Found.{IsFound, expanded_of};
 ghost use Rattle.np_first.specs.SearchTree.{states_of, IsFrontier, StepTaken};
 
 mod moves;
 mod tree;
 
-use crate::counters::Counters;
 use moves::{after_move, meets_all};
+use np_first_text::Counters;
 use sqlite_items::Items;
 use std::alloc::{AllocError, Global};
 pub use tree::Tree;

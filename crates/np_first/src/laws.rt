@@ -1,28 +1,7 @@
-//! Laws of the definitions: a task of the first form, its counters and its flat task have the same runs and plans, and what a search has
-//! expanded makes a valid certificate.
-ghost use Rattle.np_first.specs.SamePlans.{SameRun, MovesArePlan, PlansAreMoves, ShortestIsCheapest};
+//! Laws of the definitions: a task of the first form and its flat task have the same plans, and what a search has expanded makes a valid
+//! certificate.
 ghost use Rattle.np_first.specs.SameFlat.{SameFlatPlans, PlansCostWhole, StatesHaveFlat, FlatHaveStates, OneToOne, FlatIsFlat};
 ghost use Rattle.np_first.specs.CertifiedLaws.{CertifiedTo, CertifiedAll, SpentOnFlat};
-
-/// The steps of moves run to the state that the moves lead to.
-pub fn same_run()
-    ensures { SameRun }
-{}
-
-/// The moves to the goal are a plan that costs as many as there are.
-pub fn moves_are_plan()
-    ensures { MovesArePlan }
-{}
-
-/// Each plan of the task is one of moves.
-pub fn plans_are_moves()
-    ensures { PlansAreMoves }
-{}
-
-/// A shortest list of moves is a cheapest plan.
-pub fn shortest_is_cheapest()
-    ensures { ShortestIsCheapest }
-{}
 
 /// A list of steps is a plan of the task exactly where it is a flat plan, at the same cost.
 pub fn same_flat_plans()

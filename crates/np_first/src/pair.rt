@@ -1,12 +1,13 @@
 //! A pair of the first form: reading it, its flat task, and the search for a cheapest plan of it.
 ghost use Rattle.std.specs.Prelude.{◌≡◌, ◌≤◌, ◌<◌, ◌^◌, length, All, IfOk, IfSome, IfNone, IsErrOf};
 ghost use Rattle.np_model.specs.Tasks.{IsTask};
-ghost use Rattle.np_first.specs.Syntax.{IsDomain, IsProblem};
-ghost use Rattle.np_first.specs.FirstForm.{IsFirstForm, SpellsPair, SpellNoPair};
-ghost use Rattle.np_first.specs.TaskOf.{task_of};
+ghost use Rattle.np_first_text.specs.Syntax.{IsDomain, IsProblem};
+ghost use Rattle.np_first_text.specs.FirstForm.{IsFirstForm, SpellsPair, SpellNoPair};
+ghost use Rattle.np_first_text.specs.TaskOf.{task_of};
 ghost use Rattle.np_first.specs.FlatOf.{flat_of};
 ghost use Rattle.np_first.specs.PlanText.{plan_text};
-ghost use Rattle.np_first.specs.Pairs.{IsProper, IsNumbered};
+ghost use Rattle.np_first_text.specs.Pairs.{IsProper};
+ghost use Rattle.np_first.specs.Pairs.{IsNumbered};
 ghost use Rattle.np_first.specs.Outcomes.{claim_after, IsOutcomeOf};
 
 mod build;
@@ -19,12 +20,10 @@ mod readings;
 mod text;
 
 use crate::breadth_first::{End, Tree, search};
-use crate::counters::Counters;
 use crate::evidence::evidence;
-use crate::reading::{Refusal, read_domain, read_problem};
-use crate::syntax::{Domain, Problem};
 use names::Names;
 use np_cert::{Certificate, Limit};
+use np_first_text::{Counters, Domain, Problem, Refusal, read_domain, read_problem};
 use np_flat::Flat;
 use std::alloc::{AllocError, Global};
 use std::marker::Model;
@@ -40,7 +39,8 @@ pub struct Pair {
 }
 
 impl Model for Pair {
-    ghost use Rattle.np_first.specs.Pairs.{PairText, IsPair, IsNumbered};
+    ghost use Rattle.np_first_text.specs.Pairs.{IsPair};
+    ghost use Rattle.np_first.specs.Pairs.{PairText, IsNumbered};
 
     ghost Value = { PairText };
 

@@ -11,10 +11,10 @@ use Rattle.np_cert.specs.declared.certificate.Limit.TheVariants.{Number, Absent}
 use Rattle.np_cert.specs.declared.certificate.Certificate.{Certificate}
 use Rattle.np_check.specs.Bounds.{Bounds as BoundsFlat}
 use Rattle.np_check.proofs.ClaimBounds.{claim_bounds}
-use Rattle.np_first.specs.declared.syntax.Domain.{Domain}
-use Rattle.np_first.specs.declared.syntax.Problem.{Problem}
-use Rattle.np_first.specs.FirstForm.{IsFirstForm}
-use Rattle.np_first.specs.TaskOf.{task_of}
+use Rattle.np_first_text.specs.declared.syntax.Domain.{Domain}
+use Rattle.np_first_text.specs.declared.syntax.Problem.{Problem}
+use Rattle.np_first_text.specs.FirstForm.{IsFirstForm}
+use Rattle.np_first_text.specs.TaskOf.{task_of}
 use Rattle.np_first.specs.FlatOf.{flat_of}
 use Rattle.np_first.proofs.SameFlatPlans.{flat_bound_is, flat_none_is}
 use Rattle.np_planner.specs.declared.answer.File.TheVariants as file

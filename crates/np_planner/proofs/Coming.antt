@@ -12,11 +12,11 @@ use Rattle.np_cert.proofs.ReadingTexts.{one_certificate}
 use Rattle.np_cert.proofs.ValidForms.{valid_thin}
 use Rattle.np_check.specs.Verdicts.{IsVerdict}
 use Rattle.np_check.proofs.OneVerdict.{fault_is_no_yes}
-use Rattle.np_first.specs.declared.syntax.Domain.{Domain}
-use Rattle.np_first.specs.declared.syntax.Problem.{Problem}
-use Rattle.np_first.specs.FirstForm.{SpellsPair}
+use Rattle.np_first_text.specs.declared.syntax.Domain.{Domain}
+use Rattle.np_first_text.specs.declared.syntax.Problem.{Problem}
+use Rattle.np_first_text.specs.FirstForm.{SpellsPair}
 use Rattle.np_first.specs.FlatOf.{flat_of}
-use Rattle.np_first.proofs.ReadingTexts.{one_domain, one_problem}
+use Rattle.np_first_text.proofs.ReadingTexts.{one_domain, one_problem}
 use Rattle.np_planner.specs.declared.answer.File.TheVariants as file
 use Rattle.np_planner.specs.declared.answer.refusal.Refusal.{Refusal}
 use Rattle.np_planner.specs.declared.answer.refusal.Refusal.TheVariants.{TooLong, Syntax, CertificateNotBuilt}

@@ -6,8 +6,8 @@ use Rattle.np_io.specs.Files.{Files, Changes, HasPut, HasPutPrefix}
 use Rattle.np_io.specs.Counts.{Rose, OnlyAt}
 use Rattle.np_cert.specs.declared.certificate.Limit.TheVariants.{Number}
 use Rattle.np_first.specs.Certified.{IsCertified}
-use Rattle.np_first.specs.declared.syntax.Domain.{Domain}
-use Rattle.np_first.specs.declared.syntax.Problem.{Problem}
+use Rattle.np_first_text.specs.declared.syntax.Domain.{Domain}
+use Rattle.np_first_text.specs.declared.syntax.Problem.{Problem}
 use Rattle.np_first.specs.FlatOf.{flat_of}
 use Rattle.np_planner.specs.declared.answer.File.TheVariants as file
 use Rattle.np_planner.specs.declared.answer.solve.SolveAnswer.{SolveAnswer}

@@ -6,8 +6,8 @@ use Rattle.np_first.specs.Certified.{IsCertifiedBy}
 use Rattle.np_first.specs.declared.breadth_first.End.{End}
 use Rattle.np_first.specs.declared.breadth_first.End.TheVariants.{Plan, NoPlan, Spent as SpentAt}
 use Rattle.np_first.specs.declared.pair.Outcome.{Outcome}
-use Rattle.np_first.specs.declared.syntax.Domain.{Domain}
-use Rattle.np_first.specs.declared.syntax.Problem.{Problem}
+use Rattle.np_first_text.specs.declared.syntax.Domain.{Domain}
+use Rattle.np_first_text.specs.declared.syntax.Problem.{Problem}
 use Rattle.np_first.specs.FlatOf.{flat_of}
 use Rattle.np_first.specs.Outcomes.{claim_after, IsTrueEnd, IsOutcomeOf}
 use Rattle.np_planner.specs.declared.answer.solve.SolveAnswer.{SolveAnswer}

@@ -12,10 +12,10 @@ use Rattle.np_cert.specs.Valid.{IsValid}
 use Rattle.np_check.specs.declared.verdict.Verdict.{Verdict}
 use Rattle.np_check.specs.declared.verdict.Verdict.TheVariants.{BadProof, TwiceEntry, BadEntry, BadClaim}
 use Rattle.np_check.specs.Verdicts.{IsVerdict}
-use Rattle.np_first.specs.declared.syntax.Domain.{Domain}
-use Rattle.np_first.specs.declared.syntax.Problem.{Problem}
-use Rattle.np_first.specs.FirstForm.{SpellsPair}
-use Rattle.np_first.specs.TaskOf.{task_of}
+use Rattle.np_first_text.specs.declared.syntax.Domain.{Domain}
+use Rattle.np_first_text.specs.declared.syntax.Problem.{Problem}
+use Rattle.np_first_text.specs.FirstForm.{SpellsPair}
+use Rattle.np_first_text.specs.TaskOf.{task_of}
 use Rattle.np_first.specs.FlatOf.{flat_of}
 use Rattle.np_planner.specs.declared.answer.check.CheckAnswer.{CheckAnswer}
 use Rattle.np_planner.specs.declared.answer.check.CheckAnswer.TheVariants.{Yes, No}

@@ -7,10 +7,10 @@ use Rattle.np_io.specs.Counts.{Rose, OnlyAt}
 use Rattle.np_model.specs.Tasks.{IsTask}
 use Rattle.np_cert.specs.declared.certificate.Certificate.{Certificate}
 use Rattle.np_cert.specs.Text.{Spells}
-use Rattle.np_first.specs.declared.syntax.Domain.{Domain}
-use Rattle.np_first.specs.declared.syntax.Problem.{Problem}
-use Rattle.np_first.specs.FirstForm.{SpellsPair}
-use Rattle.np_first.specs.TaskOf.{task_of}
+use Rattle.np_first_text.specs.declared.syntax.Domain.{Domain}
+use Rattle.np_first_text.specs.declared.syntax.Problem.{Problem}
+use Rattle.np_first_text.specs.FirstForm.{SpellsPair}
+use Rattle.np_first_text.specs.TaskOf.{task_of}
 use Rattle.np_planner.specs.declared.inputs.TheConstants.{MOST_BYTES}
 use Rattle.np_planner.specs.Words.{Inputs}
 

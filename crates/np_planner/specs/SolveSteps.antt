@@ -3,8 +3,8 @@ use Rattle.std.specs.Prelude.{◌≡◌, ℕ, ◌<◌, ◌⊎◌, ⊤, List, [],
 use Rattle.np_io.specs.Seen.{SeenShelf}
 use Rattle.np_io.specs.Files.{Changes, HasPut, HasPutPrefix}
 use Rattle.np_first.specs.Certified.{IsCertified}
-use Rattle.np_first.specs.declared.syntax.Domain.{Domain}
-use Rattle.np_first.specs.declared.syntax.Problem.{Problem}
+use Rattle.np_first_text.specs.declared.syntax.Domain.{Domain}
+use Rattle.np_first_text.specs.declared.syntax.Problem.{Problem}
 use Rattle.np_first.specs.declared.breadth_first.End.{End}
 use Rattle.np_first.specs.declared.breadth_first.End.TheVariants.{Plan, NoPlan, Spent as SpentAt}
 use Rattle.np_first.specs.FlatOf.{flat_of}

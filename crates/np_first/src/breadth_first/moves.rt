@@ -1,10 +1,10 @@
 //! Whether a move is applicable, and what it leaves.
 ghost use Rattle.std.specs.Prelude.{◌≡◌, ◌<◌, ◌^◌, length, All, IfOk, IfSome, option_map, vec_items};
 ghost use Rattle.std.specs.List.{list_all};
-ghost use Rattle.np_first.specs.Counters.{meets, all_changed, moved, IsNeedOf, IsChangeOf, IsMoveOf};
+ghost use Rattle.np_first_text.specs.Counters.{meets, all_changed, moved, IsNeedOf, IsChangeOf, IsMoveOf};
 ghost use Rattle.np_first.specs.SearchTree.{AreSmall};
 
-use crate::counters::{Change, Move, Need};
+use np_first_text::{Change, Move, Need};
 use std::alloc::{AllocError, Global};
 
 /// Whether the values meet all needs.

@@ -1,16 +1,15 @@
 //! The counters of a pair of the first form.
 ghost use Rattle.std.specs.Prelude.{◌≡◌, map, All, IfOk};
-ghost use Rattle.np_first.specs.Syntax.{IsDomain, IsProblem, IsTest, IsEffect, IsAction, IsValue};
-ghost use Rattle.np_first.specs.FirstForm.{IsFirstForm};
-ghost use Rattle.np_first.specs.TaskOf.{place_of};
-ghost use Rattle.np_first.specs.CountersOf.{counters_of, counter_need, counter_change, move_of, start_value, signed_amount};
+ghost use Rattle.np_first_text.specs.Syntax.{IsDomain, IsProblem, IsTest, IsEffect, IsAction, IsValue};
+ghost use Rattle.np_first_text.specs.FirstForm.{IsFirstForm};
+ghost use Rattle.np_first_text.specs.TaskOf.{place_of};
+ghost use Rattle.np_first_text.specs.CountersOf.{counters_of, counter_need, counter_change, move_of, start_value, signed_amount};
 ghost use Rattle.np_first.specs.PairNames.{AreNamesOf};
 
 use super::digits::number;
 use super::names::Names;
-use crate::counters::{Change, Counters, Move, Need};
-use crate::syntax::{Action, Domain, Effect, Problem, Test, Value};
 use indexmap::IndexSet;
+use np_first_text::{Action, Change, Counters, Domain, Effect, Move, Need, Problem, Test, Value};
 use np_model::Name;
 use sqlite_items::{Items, at};
 use std::alloc::{AllocError, Global};

@@ -1,10 +1,10 @@
 //! The number that a whole number as written stands for.
 ghost use Rattle.std.specs.Prelude.{◌≡◌, ◌<◌, unsigned_abs};
-ghost use Rattle.np_first.specs.TaskOf.{size_of, number_of};
-ghost use Rattle.np_first.specs.Syntax.{IsWhole};
-ghost use Rattle.np_first.specs.Counters.{most};
+ghost use Rattle.np_first_text.specs.TaskOf.{size_of, number_of};
+ghost use Rattle.np_first_text.specs.Syntax.{IsWhole};
+ghost use Rattle.np_first_text.specs.Counters.{most};
 
-use crate::syntax::Whole;
+use np_first_text::Whole;
 
 /// The number, exactly. Its 9 digits leave it far from the limits of the type.
 pub fn number(whole: &Whole) -> i128

@@ -1,12 +1,12 @@
 //! The flat task of a pair of the first form.
 ghost use Rattle.std.specs.Prelude.{◌≡◌, [], map, length, ◌^◌, ◌<◌, unsigned_abs, All, IfOk};
-ghost use Rattle.np_first.specs.Syntax.{IsDomain, IsProblem, IsTest};
-ghost use Rattle.np_first.specs.FirstForm.{IsFirstForm};
+ghost use Rattle.np_first_text.specs.Syntax.{IsDomain, IsProblem, IsTest};
+ghost use Rattle.np_first_text.specs.FirstForm.{IsFirstForm};
 ghost use Rattle.np_first.specs.PairNames.{AreNamesOf};
-ghost use Rattle.np_first.specs.Counters.{most};
-ghost use Rattle.np_first.specs.TaskOf.{term_of};
-ghost use Rattle.np_first.specs.CountersOf.{start_value};
-ghost use Rattle.np_first.specs.Pairs.{IsProper};
+ghost use Rattle.np_first_text.specs.Counters.{most};
+ghost use Rattle.np_first_text.specs.TaskOf.{term_of};
+ghost use Rattle.np_first_text.specs.CountersOf.{start_value};
+ghost use Rattle.np_first_text.specs.Pairs.{IsProper};
 ghost use Rattle.np_first.specs.FlatOf.{flat_of, subgoal_of};
 ghost use Rattle.np_first.specs.FlatParts.{needs_by, step_by, steps_by, HasStep};
 
@@ -14,8 +14,8 @@ use super::build::start_values;
 use super::names::Names;
 use super::nets::changes;
 use super::readings::{Reading, name_number, reading, reading_number, readings};
-use crate::syntax::{Action, Domain, Problem, Test};
 use indexmap::IndexSet;
+use np_first_text::{Action, Domain, Problem, Test};
 use np_flat::{Flat, FlatState, FlatStep, Form, Parts, Subgoal, put_in};
 use np_model::{Name, Objects, Step, Term};
 use sqlite_items::Items;

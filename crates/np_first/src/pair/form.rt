@@ -2,12 +2,12 @@
 ghost use Rattle.std.specs.Prelude.{◌≡◌, ℕ, List, ◌≤◌, ◌↔◌, length, All, Contains, IsTrue};
 ghost use Rattle.std.specs.List.{IsDistinct};
 ghost use Rattle.std.specs.Str.{bytes_eq};
-ghost use Rattle.np_first.specs.FirstForm.{IsFirstForm, action_names, tested, affected, valued};
+ghost use Rattle.np_first_text.specs.FirstForm.{IsFirstForm, action_names, tested, affected, valued};
 ghost use Rattle.np_first.specs.PairNames.{AreNamesOf, each_once};
 
 use super::names::Names;
-use crate::syntax::{Domain, Problem};
 use indexmap::IndexSet;
+use np_first_text::{Domain, Problem};
 use np_model::Name;
 
 const MAX_FUNCTIONS: usize = 1000;

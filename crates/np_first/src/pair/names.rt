@@ -4,8 +4,8 @@ ghost use Rattle.std.specs.List.{flat_map};
 ghost use Rattle.std.specs.Str.{bytes_eq};
 ghost use Rattle.indexmap.specs.IndexSet.{insert_key, insert_all};
 
-use crate::syntax::{Action, Domain, Effect, Problem, Test, Value};
 use indexmap::IndexSet;
+use np_first_text::{Action, Domain, Effect, Problem, Test, Value};
 use np_model::Name;
 use std::alloc::{AllocError, Global};
 

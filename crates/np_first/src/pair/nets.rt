@@ -1,12 +1,12 @@
 //! What the effects of an action add to the values.
 ghost use Rattle.std.specs.Prelude.{◌≡◌, map, length, ◌^◌, ◌<◌, All, Contains, IfOk};
-ghost use Rattle.np_first.specs.Syntax.{IsEffect};
+ghost use Rattle.np_first_text.specs.Syntax.{IsEffect};
 ghost use Rattle.np_first.specs.FlatOf.{net_on, changes_from};
 ghost use Rattle.np_first.specs.FlatParts.{some_from};
 
 use super::build::{place, signed_amount};
-use crate::syntax::Effect;
 use indexmap::IndexSet;
+use np_first_text::Effect;
 use np_model::Name;
 use sqlite_items::Items;
 use std::alloc::{AllocError, Global};

@@ -2,14 +2,14 @@
 ghost use Rattle.std.specs.Prelude.{◌≡◌, [], map, length, ◌^◌, ◌<◌, All, IfOk, OnOk};
 ghost use Rattle.std.specs.List.{flat_map};
 ghost use Rattle.indexmap.specs.IndexSet.{insert_all};
-ghost use Rattle.np_first.specs.Syntax.{IsDomain, IsProblem, IsTest};
-ghost use Rattle.np_first.specs.TaskOf.{place_of};
+ghost use Rattle.np_first_text.specs.Syntax.{IsDomain, IsProblem, IsTest};
+ghost use Rattle.np_first_text.specs.TaskOf.{place_of};
 ghost use Rattle.np_first.specs.FlatOf.{same_reading, first_readings, reading_of, reading_number, all_tests};
 
 use super::build::place;
 use super::digits::number;
-use crate::syntax::{Action, Domain, Problem, Test};
 use indexmap::IndexSet;
+use np_first_text::{Action, Domain, Problem, Test};
 use np_model::Name;
 use std::alloc::{AllocError, Global};
 

@@ -2,7 +2,7 @@
 ghost use Rattle.std.specs.Prelude.{◌≡◌, ◌++◌, ◌<◌, length, All, IfOk, OnOk};
 ghost use Rattle.np_first.specs.PlanText.{line_of, plan_text};
 
-use crate::syntax::Domain;
+use np_first_text::Domain;
 use std::alloc::{AllocError, Global};
 
 /// The text of the plan: a line `(NAME)` for each number of an action, in order.

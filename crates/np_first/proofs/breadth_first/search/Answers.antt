@@ -1,7 +1,7 @@
 use Rattle.std.proofs.Common.{◌≡◌, ◌^◌, ◌≤◌, true, false, [], ◌∷◌, length, get_or, All, subst, sym, ap, ◌∙◌, arith}
 use Rattle.std.specs.List.{list_all}
 use Rattle.np_first.specs.declared.breadth_first.End.TheVariants.{Spent}
-use Rattle.np_first.specs.Counters.{IsNeedOf, meets, is_goal}
+use Rattle.np_first_text.specs.Counters.{IsNeedOf, meets, is_goal}
 use Rattle.np_first.specs.Found.{expanded_in, IsEnd}
 use Rattle.np_first.specs.SearchTree.{states_of, root, IsEntry, IsFrontier, IsPath}
 use Rattle.np_first.proofs.SearchBegin.{frontier_first}

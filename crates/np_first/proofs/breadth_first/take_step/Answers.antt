@@ -1,6 +1,6 @@
 use Rattle.std.proofs.Common.{◌≡◌, ◌+◌, ◌^◌, ◌<◌, ℤ, Some, Vec, Global, length, get_or, option_map, vec_items, IfSome, sym, ap, subst, ◌∙◌, arith}
 use Rattle.std.proofs.lemmas.Result.{on_ok_weaker}
-use Rattle.np_first.specs.Counters.{next, IsMoveOf}
+use Rattle.np_first_text.specs.Counters.{next, IsMoveOf}
 use Rattle.np_first.specs.SearchTree.{states_of, root, IsEntry, IsSized}
 use Rattle.np_first.proofs.SearchSteps.{sized_moved, small_early, next_moved, read_move, move_in_range, state_entry, taken_nothing, taken_added}
 use Rattle.np_first.proofs.breadth_first.take_step.Goals as goal

@@ -1,14 +1,14 @@
 use Rattle.std.proofs.Common.{rules, subst, Option}
 use Rattle.std.specs.Prelude.{IfNone, IfSome}
 use Rattle.np_flat.specs.declared.parts.Parts.{Parts}
-use Rattle.np_first.specs.declared.counters.Counters.{Counters}
-use Rattle.np_first.specs.declared.syntax.Domain.{Domain}
-use Rattle.np_first.specs.declared.syntax.Problem.{Problem}
-use Rattle.np_first.specs.FirstForm.{IsFirstForm}
-use Rattle.np_first.proofs.ReadingTexts.{one_domain, one_problem}
+use Rattle.np_first_text.specs.declared.counters.Counters.{Counters}
+use Rattle.np_first_text.specs.declared.syntax.Domain.{Domain}
+use Rattle.np_first_text.specs.declared.syntax.Problem.{Problem}
+use Rattle.np_first_text.specs.FirstForm.{IsFirstForm}
+use Rattle.np_first_text.proofs.ReadingTexts.{one_domain, one_problem}
 use Rattle.np_first.specs.Pairs.{IsNumbered}
-use Rattle.np_first.proofs.SamePlansTask.{is_task}
-use Rattle.np_first.proofs.Proper.{is_proper}
+use Rattle.np_first_text.proofs.SamePlansTask.{is_task}
+use Rattle.np_first_text.proofs.Proper.{is_proper}
 use Rattle.np_first.proofs.pair.read_pair.Goals as goal
 
 pub returns-in-Err-clause-not_built : goal.returns-in-Err-clause-not_built

@@ -1,5 +1,5 @@
 use Rattle.std.proofs.Common.{◌≡◌, take}
-use Rattle.np_first.specs.Counters.{all_changed}
+use Rattle.np_first_text.specs.Counters.{all_changed}
 use Rattle.np_first.proofs.breadth_first.moves.make_changes.Given as goal
 
 abbrev pub invariant-loop-change : goal.invariant-loop-change

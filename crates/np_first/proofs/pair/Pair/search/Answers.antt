@@ -1,11 +1,11 @@
 use Rattle.std.proofs.Common.{◌≡◌, sym, subst}
-use Rattle.np_first.specs.Counters.{IsInRange}
+use Rattle.np_first_text.specs.Counters.{IsInRange}
 use Rattle.np_first.specs.Pairs.{PairText}
 use Rattle.np_first.specs.Outcomes.{IsOutcomeOf}
 use Rattle.np_first.specs.Evidence.{certificate_of}
 use Rattle.np_first.specs.Found.{expanded_of}
 use Rattle.np_cert.specs.declared.certificate.Limit.{Limit}
-use Rattle.np_first.proofs.SamePlansRange.{in_range}
+use Rattle.np_first_text.proofs.SamePlansRange.{in_range}
 use Rattle.np_first.proofs.Outcomes.{outcome_is}
 use Rattle.np_first.proofs.pair.Pair.search.Goals as goal
 

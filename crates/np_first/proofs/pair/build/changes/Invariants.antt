@@ -1,5 +1,5 @@
 use Rattle.std.proofs.Common.{◌≡◌, map, take}
-use Rattle.np_first.specs.CountersOf.{counter_change}
+use Rattle.np_first_text.specs.CountersOf.{counter_change}
 use Rattle.np_first.proofs.pair.build.changes.Given as goal
 
 abbrev pub invariant-loop-effect : goal.invariant-loop-effect

@@ -1,7 +1,7 @@
 use Rattle.std.proofs.Common.{map, All, ap, sym, subst, ◌∙◌}
-use Rattle.np_first.specs.Syntax.{IsAction}
-use Rattle.np_first.specs.FirstForm.{valued}
-use Rattle.np_first.specs.CountersOf.{counter_need, move_of, start_value}
+use Rattle.np_first_text.specs.Syntax.{IsAction}
+use Rattle.np_first_text.specs.FirstForm.{valued}
+use Rattle.np_first_text.specs.CountersOf.{counter_need, move_of, start_value}
 use Rattle.np_first.proofs.PairLemmas.{each_once-same}
 use Rattle.np_first.proofs.pair.build.counters.Goals as goal
 

@@ -1,5 +1,5 @@
 use Rattle.std.proofs.Common.{sym, subst}
-use Rattle.np_first.specs.Syntax.{IsAction}
+use Rattle.np_first_text.specs.Syntax.{IsAction}
 use Rattle.np_first.proofs.pair.build.moves.Goals as goal
 
 pub move_for-requires : goal.move_for-requires

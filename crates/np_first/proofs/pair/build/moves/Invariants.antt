@@ -1,5 +1,5 @@
 use Rattle.std.proofs.Common.{◌≡◌, map, take}
-use Rattle.np_first.specs.CountersOf.{move_of}
+use Rattle.np_first_text.specs.CountersOf.{move_of}
 use Rattle.np_first.proofs.pair.build.moves.Given as goal
 
 abbrev pub invariant-loop-action : goal.invariant-loop-action

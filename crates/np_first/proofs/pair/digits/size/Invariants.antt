@@ -1,5 +1,5 @@
 use Rattle.std.proofs.Common.{◌≡◌, ◌<◌, ◌^◌, take}
-use Rattle.np_first.specs.TaskOf.{size_of}
+use Rattle.np_first_text.specs.TaskOf.{size_of}
 use Rattle.np_first.proofs.pair.digits.size.Given as goal
 
 abbrev pub invariant-loop-digit : goal.invariant-loop-digit

@@ -1,12 +1,12 @@
 use Rattle.std.proofs.Common.{◌≡◌, ℕ, ◌<◌, ◌^◌, List, [], map, length, All, unsigned_abs, pos, ap, sym, subst, ◌∙◌, arith}
-use Rattle.np_first.specs.declared.syntax.Domain.{Domain}
-use Rattle.np_first.specs.declared.syntax.Problem.{Problem}
-use Rattle.np_first.specs.Counters.{most}
+use Rattle.np_first_text.specs.declared.syntax.Domain.{Domain}
+use Rattle.np_first_text.specs.declared.syntax.Problem.{Problem}
+use Rattle.np_first_text.specs.Counters.{most}
 use Rattle.np_first.specs.FlatOf.{Reading, value_order, readings_of, subgoal_of, reading_of, first_readings, all_tests}
 use Rattle.np_first.specs.FlatParts.{needs_by, steps_by, HasStep}
-use Rattle.np_first.specs.FirstForm.{IsFirstForm, valued}
-use Rattle.np_first.specs.TaskOf.{term_of}
-use Rattle.np_first.specs.CountersOf.{start_value}
+use Rattle.np_first_text.specs.FirstForm.{IsFirstForm, valued}
+use Rattle.np_first_text.specs.TaskOf.{term_of}
+use Rattle.np_first_text.specs.CountersOf.{start_value}
 use Rattle.np_first.proofs.PairLemmas.{each_once-same}
 use Rattle.np_first.proofs.FlatLimits.{few_values, few_readings, readings_are}
 use Rattle.np_first.proofs.FlatSteps.{steps_are, have_steps}

@@ -1,5 +1,5 @@
 use Rattle.std.proofs.Common.{◌≡◌, map, take}
-use Rattle.np_first.specs.TaskOf.{term_of}
+use Rattle.np_first_text.specs.TaskOf.{term_of}
 use Rattle.np_first.proofs.pair.flat.values.Given as goal
 
 abbrev pub invariant-loop-function : goal.invariant-loop-function

@@ -1,5 +1,5 @@
 use Rattle.std.proofs.Common.{sym, ◌∙◌, true≢false}
-use Rattle.np_first.specs.FirstForm.{tested, affected, valued}
+use Rattle.np_first_text.specs.FirstForm.{tested, affected, valued}
 use Rattle.np_first.proofs.pair.form.are_declared.Goals as goal
 use Rattle.np_first.proofs.pair.form.are_declared.Goals.{then-covers, else-covers}
 

@@ -1,6 +1,6 @@
 use Rattle.std.proofs.Common.{sym, ◌∙◌, true≢false}
 use Rattle.std.proofs.lemmas.List.{length-map}
-use Rattle.np_first.specs.FirstForm.{action_names, valued}
+use Rattle.np_first_text.specs.FirstForm.{action_names, valued}
 use Rattle.np_first.proofs.pair.form.are_distinct.Goals as goal
 use Rattle.np_first.proofs.pair.form.are_distinct.Goals.{then-holds_all, else-holds_all}
 

@@ -2,8 +2,8 @@ use Rattle.std.proofs.Common.{◌≡◌, ℕ, ◌+◌, ◌<◌, ◌≤◌, List,
 use Rattle.std.proofs.lemmas.List.{length-map, length-append}
 use Rattle.std.proofs.lemmas.List.Folds.{length-flat_map-take}
 use Rattle.std.specs.List.{flat_map}
-use Rattle.np_first.specs.declared.syntax.Action.{Action}
-use Rattle.np_first.specs.declared.syntax.Test.{Test}
+use Rattle.np_first_text.specs.declared.syntax.Action.{Action}
+use Rattle.np_first_text.specs.declared.syntax.Test.{Test}
 use Rattle.np_first.proofs.pair.form.has_few_tests.Goals as goal
 
 -- what is left is too little for the tests of one more action

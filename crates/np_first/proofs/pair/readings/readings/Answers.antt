@@ -1,9 +1,9 @@
 use Rattle.std.proofs.Common.{ap, map, sym, subst, ◌∙◌, All}
 use Rattle.std.specs.List.{flat_map}
 use Rattle.indexmap.specs.IndexSet.{insert_all}
-use Rattle.np_first.specs.Syntax.{IsTest}
+use Rattle.np_first_text.specs.Syntax.{IsTest}
 use Rattle.np_first.specs.FlatOf.{same_reading, reading_of}
-use Rattle.np_first.specs.declared.syntax.Action.{Action}
+use Rattle.np_first_text.specs.declared.syntax.Action.{Action}
 use Rattle.np_first.proofs.FlatSteps.{readings_by}
 use Rattle.np_first.proofs.pair.readings.readings.Goals as goal
 

@@ -1,0 +1,16 @@
+pub mod Proper
+pub mod ReadingForms
+pub mod ReadingLaws
+pub mod ReadingTexts
+pub mod ReadingWords
+pub mod SamePlans
+pub mod SamePlansDeclared
+pub mod SamePlansEffects
+pub mod SamePlansGoal
+pub mod SamePlansPlaces
+pub mod SamePlansRange
+pub mod SamePlansRuns
+pub mod SamePlansStart
+pub mod SamePlansSteps
+pub mod SamePlansSums
+pub mod SamePlansTask

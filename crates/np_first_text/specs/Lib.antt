@@ -1,0 +1,10 @@
+pub mod Counters
+pub mod CountersOf
+pub mod FirstForm
+pub mod Pairs
+pub mod ReadingAnswers
+pub mod ReadingForm
+pub mod SamePlans
+pub mod StateOf
+pub mod Syntax
+pub mod TaskOf
