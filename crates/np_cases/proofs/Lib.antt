@@ -1,3 +1,2 @@
-pub mod LeastTask
 pub mod LoweringTask
 pub mod GraphPlans

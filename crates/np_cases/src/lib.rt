@@ -13,8 +13,6 @@ mod frac;
 #[cfg(test)]
 mod io;
 #[cfg(test)]
-mod model;
-#[cfg(test)]
 mod search;
 #[cfg(test)]
 mod space;

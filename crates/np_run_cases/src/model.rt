@@ -1,6 +1,6 @@
 //! Planning by names.
 ghost use Rattle.std.specs.Prelude.{◌≡◌};
-ghost use Rattle.np_cases.specs.Least.{least};
+ghost use Rattle.np_run_cases.specs.Least.{least};
 
 use indexmap::IndexMap;
 use np_frac::Frac;

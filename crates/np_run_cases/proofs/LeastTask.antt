@@ -7,7 +7,7 @@ use Rattle.np_model.specs.Types.{is_under}
 use Rattle.np_model.specs.Names.{is_name}
 use Rattle.np_model.specs.Tasks.{is_ground_atom, is_ground_term, is_condition, IsSignature, IsAction, AreNames, IsTask}
 use Rattle.np_model.proofs.Distinct.{none, alone, distinct_none, distinct_one}
-use Rattle.np_cases.specs.Least.{least}
+use Rattle.np_run_cases.specs.Least.{least}
 
 no_names : AreNames []
 no_names = record { spelled = none (λ n. IsTrue (is_name n)); distinct = distinct_none }

@@ -1,0 +1,2 @@
+pub mod CounterTask
+pub mod LeastTask
