@@ -10,8 +10,8 @@ use Rattle.np_syntax.specs.declared.domain.DomainSection.{DomainSection}
 use Rattle.np_syntax.specs.declared.domain.Domain.{Domain as Domain_}
 use Rattle.np_problem.specs.declared.problem.Problem.{Problem}
 use Rattle.np_declared.specs.declared.declarations.Declarations.{Declarations}
-use Rattle.np_syntax.specs.declared.condition.Condition.{Condition}
-use Rattle.np_syntax.specs.declared.effect.Effect.{Effect}
+use Rattle.np_conditions.specs.declared.condition.Condition.{Condition}
+use Rattle.np_conditions.specs.declared.effect.Effect.{Effect}
 use Rattle.np_syntax.specs.declared.domain.DomainSection.TheVariants as d
 use Rattle.np_lex.specs.declared.token.Place.{Place}
 use Rattle.np_declared.specs.declared.fault.Source.TheVariants.{Domain, Problem as InProblem}

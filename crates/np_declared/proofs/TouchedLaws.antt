@@ -2,10 +2,10 @@
 use Rattle.std.proofs.Common.{◌≡◌, ℕ, List, [], ◌∷◌, ◌++◌, map, fold, Result, Ok, Err, refl, sym, ap, ◌∙◌}
 use Rattle.std.specs.List.{flat_map}
 use Rattle.np_words.specs.declared.word.Word.{Word}
-use Rattle.np_syntax.specs.declared.effect.Effect.{Effect}
-use Rattle.np_syntax.specs.declared.effect.Effect.TheFolds.{fold-roll-Effect}
-use Rattle.np_syntax.specs.declared.effect.Effect.TheOpen.{Effect-F}
-use Rattle.np_syntax.specs.declared.effect.Effect.TheVariants as e
+use Rattle.np_conditions.specs.declared.effect.Effect.{Effect}
+use Rattle.np_conditions.specs.declared.effect.Effect.TheFolds.{fold-roll-Effect}
+use Rattle.np_conditions.specs.declared.effect.Effect.TheOpen.{Effect-F}
+use Rattle.np_conditions.specs.declared.effect.Effect.TheVariants as e
 use Rattle.np_declared.specs.declared.fault.TypeFault.{TypeFault}
 use Rattle.np_declared.specs.Answers.{Answers}
 use Rattle.np_declared.specs.Names.{with_name, texts}

@@ -5,9 +5,9 @@ use Rattle.np_model.specs.declared.task.TypeName.{TypeName}
 use Rattle.np_model.specs.declared.task.Object.{Object}
 use Rattle.np_model.specs.declared.task.Signature.{Signature}
 use Rattle.np_words.specs.declared.word.Word.{Word}
-use Rattle.np_syntax.specs.declared.effect.Effect.{Effect}
-use Rattle.np_syntax.specs.declared.effect.Effect.TheFolds.{fold-Effect}
-use Rattle.np_syntax.specs.declared.effect.Effect.TheOpen.{Effect-F}
+use Rattle.np_conditions.specs.declared.effect.Effect.{Effect}
+use Rattle.np_conditions.specs.declared.effect.Effect.TheFolds.{fold-Effect}
+use Rattle.np_conditions.specs.declared.effect.Effect.TheOpen.{Effect-F}
 use Rattle.np_syntax.specs.declared.domain.Declared.{Declared}
 use Rattle.np_syntax.specs.declared.domain.Domain.{Domain}
 use Rattle.np_syntax.specs.declared.domain.DomainSection.{DomainSection}

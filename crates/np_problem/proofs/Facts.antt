@@ -21,12 +21,12 @@ use Rattle.np_read.proofs.Spelled.{Reads, Avoids, Made, GoodPair, SamePair, read
 use Rattle.np_words.specs.declared.word.Decimal.{Decimal}
 use Rattle.np_words.specs.declared.word.Word.{Word}
 use Rattle.np_words.specs.Bare.{bare_word}
-use Rattle.np_syntax.specs.ConditionForm.{closed}
+use Rattle.np_conditions.specs.ConditionForm.{closed}
 use Rattle.np_words.specs.ReadingForm.{name, name_of, number}
 use Rattle.np_words.specs.Text.{spelled, marked, operator_lexeme}
 use Rattle.np_words.specs.Text as text
 use Rattle.np_words.specs.Written.{IsName, IsDecimal}
-use Rattle.np_syntax.proofs.ConditionReads.{not_reserved}
+use Rattle.np_conditions.proofs.ConditionReads.{not_reserved}
 use Rattle.np_syntax.proofs.Declarations.{after_left_avoids}
 use Rattle.np_words.proofs.ExprStarts.{closes}
 use Rattle.np_words.proofs.ReadingNumbers.{SameDecimal, starting_decimal, reads_decimal, placed_decimal}

@@ -21,14 +21,14 @@ use Rattle.np_read.proofs.GoodParts.{starts_expect, starts_after, starts_both, s
 use Rattle.np_read.proofs.Marked.{Placed, plain, placed_expect, placed_same, placed_both, placed_made, placed_after, placed_before, placed_row}
 use Rattle.np_read.proofs.PlacedParts.{Refuses, MadeOf, IsAnyPlace, SamePlace, starts_placed, reads_placed, placed_placed, made_refuses, both_refuses, token_refuses, token_nothing, silent}
 use Rattle.np_read.proofs.Spelled.{Reads, Avoids, Made, GoodPair, SamePair, reads_expect, reads_same, reads_both, reads_made, reads_after, reads_before}
-use Rattle.np_syntax.specs.declared.condition.Condition.{Condition}
+use Rattle.np_conditions.specs.declared.condition.Condition.{Condition}
 use Rattle.np_words.specs.declared.expr.Expr.{Expr}
 use Rattle.np_words.specs.declared.word.Group.{Group}
 use Rattle.np_words.specs.declared.word.ListKind.TheVariants.{Names}
 use Rattle.np_words.specs.declared.word.Word.{Word}
 use Rattle.np_words.specs.Bare.{nowhere, bare_word}
-use Rattle.np_syntax.specs.ConditionForm.{condition, closed}
-use Rattle.np_syntax.specs.ConditionText as condition_text
+use Rattle.np_conditions.specs.ConditionForm.{condition, closed}
+use Rattle.np_conditions.specs.ConditionText as condition_text
 use Rattle.np_syntax.specs.DomainForm.{typed_list}
 use Rattle.np_words.specs.ExprForm.{expr}
 use Rattle.np_words.specs.ExprText as expr_text
@@ -36,9 +36,9 @@ use Rattle.np_words.specs.ReadingForm.{name, requirement}
 use Rattle.np_words.specs.Text.{spelled, marked, keyword_lexeme}
 use Rattle.np_words.specs.Text as text
 use Rattle.np_words.specs.Written.{IsWord, IsName, AreGroups}
-use Rattle.np_syntax.proofs.ConditionPlaced.{placed_condition}
-use Rattle.np_syntax.proofs.ConditionReads.{SameCondition, reads_condition}
-use Rattle.np_syntax.proofs.ConditionStarts.{starting_condition}
+use Rattle.np_conditions.proofs.ConditionPlaced.{placed_condition}
+use Rattle.np_conditions.proofs.ConditionReads.{SameCondition, reads_condition}
+use Rattle.np_conditions.proofs.ConditionStarts.{starting_condition}
 use Rattle.np_syntax.proofs.Declarations.{after_left_avoids}
 use Rattle.np_words.proofs.ExprPlaced.{placed_expr}
 use Rattle.np_words.proofs.ExprReads.{SameExpr, reads_expr}

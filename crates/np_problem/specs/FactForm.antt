@@ -6,7 +6,7 @@ use Rattle.np_problem.specs.declared.problem.Fact.TheVariants as f
 use Rattle.np_read.specs.ItemReaders.{Reader, expect, either, after, both, made, row}
 use Rattle.np_words.specs.declared.word.Decimal.{Decimal}
 use Rattle.np_words.specs.declared.word.Word.{Word}
-use Rattle.np_syntax.specs.ConditionForm.{closed}
+use Rattle.np_conditions.specs.ConditionForm.{closed}
 use Rattle.np_words.specs.ReadingForm.{name, number}
 use Rattle.np_words.specs.Text.{operator_lexeme}
 

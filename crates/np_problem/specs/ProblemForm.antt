@@ -8,11 +8,11 @@ use Rattle.np_problem.specs.FactForm.{fact}
 use Rattle.np_problem.specs.ProblemText.{goal_levels, metric_levels}
 use Rattle.np_read.specs.ItemReaders.{Reader, expect, open_with, after, both, made, row}
 use Rattle.np_read.specs.PlacedReaders.{place_if, placed, either_by}
-use Rattle.np_syntax.specs.declared.condition.Condition.{Condition}
+use Rattle.np_conditions.specs.declared.condition.Condition.{Condition}
 use Rattle.np_words.specs.declared.expr.Expr.{Expr}
 use Rattle.np_words.specs.declared.word.ListKind.TheVariants.{Names}
 use Rattle.np_words.specs.declared.word.Word.{Word}
-use Rattle.np_syntax.specs.ConditionForm.{condition, closed}
+use Rattle.np_conditions.specs.ConditionForm.{condition, closed}
 use Rattle.np_syntax.specs.DomainForm.{typed_list}
 use Rattle.np_words.specs.ExprForm.{expr}
 use Rattle.np_words.specs.ReadingForm.{name, requirement}

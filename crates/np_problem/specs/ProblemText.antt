@@ -7,11 +7,11 @@ use Rattle.np_problem.specs.declared.problem.ProblemSection.{ProblemSection}
 use Rattle.np_problem.specs.declared.problem.ProblemSection.TheVariants as s
 use Rattle.np_problem.specs.FactText.{fact, IsFact, bare_fact}
 use Rattle.np_read.specs.Marks.{each}
-use Rattle.np_syntax.specs.declared.condition.Condition.{Condition}
+use Rattle.np_conditions.specs.declared.condition.Condition.{Condition}
 use Rattle.np_words.specs.declared.expr.Expr.{Expr}
 use Rattle.np_words.specs.declared.word.ListKind.TheVariants.{Names}
 use Rattle.np_words.specs.Bare.{nowhere, bare_word, bare_groups}
-use Rattle.np_syntax.specs.ConditionText.{condition, IsCondition, bare_condition}
+use Rattle.np_conditions.specs.ConditionText.{condition, IsCondition, bare_condition}
 use Rattle.np_words.specs.ExprText.{left_at, expr, IsExpr, bare_expr}
 use Rattle.np_words.specs.Text.{Printer, left, right, fixed_name, keyword_at, name, requirement, groups}
 use Rattle.np_words.specs.Written.{IsWord, IsName, AreGroups}

@@ -9,8 +9,8 @@ use Rattle.np_read.specs.ItemReaders.{Outcome, Reader, and_then, pure, expect, b
 use Rattle.np_read.specs.PlacedReaders.{placed}
 use Rattle.np_read.proofs.GoodParts.{either_nothing}
 use Rattle.np_read.proofs.ItemChoices.{is_wanted, either_taken, either_other}
-use Rattle.np_syntax.specs.declared.condition.Condition.{Condition}
-use Rattle.np_syntax.specs.declared.effect.Effect.{Effect}
+use Rattle.np_conditions.specs.declared.condition.Condition.{Condition}
+use Rattle.np_conditions.specs.declared.effect.Effect.{Effect}
 use Rattle.np_syntax.specs.declared.domain.DomainSection.{DomainSection}
 use Rattle.np_lex.specs.declared.token.Place.{Place}
 use Rattle.np_words.specs.declared.word.Group.{Group}

@@ -6,22 +6,22 @@ use Rattle.np_read.proofs.Good.{Good, Starting, good_of}
 use Rattle.np_read.proofs.Spelled.{Reads}
 use Rattle.np_read.proofs.Marked.{Placed}
 use Rattle.np_syntax.specs.declared.domain.Domain.{Domain}
-use Rattle.np_syntax.specs.ConditionForm as conditions
-use Rattle.np_syntax.specs.EffectForm as effects
-use Rattle.np_syntax.specs.ConditionText.{bare_condition}
-use Rattle.np_syntax.specs.ConditionText as condition_text
-use Rattle.np_syntax.specs.EffectText.{bare_effect}
-use Rattle.np_syntax.specs.EffectText as effect_text
+use Rattle.np_conditions.specs.ConditionForm as conditions
+use Rattle.np_conditions.specs.EffectForm as effects
+use Rattle.np_conditions.specs.ConditionText.{bare_condition}
+use Rattle.np_conditions.specs.ConditionText as condition_text
+use Rattle.np_conditions.specs.EffectText.{bare_effect}
+use Rattle.np_conditions.specs.EffectText as effect_text
 use Rattle.np_syntax.specs.SectionText as section_text
 use Rattle.np_words.specs.Text.{spelled, marked}
 use Rattle.np_syntax.specs.ActionForm.{depth, action_condition, action_effect, domain_section, domain}
 use Rattle.np_syntax.specs.Domains.{IsActionCondition, IsActionEffect, IsDomain, bare_domain}
-use Rattle.np_syntax.proofs.ConditionStarts.{starting_condition}
-use Rattle.np_syntax.proofs.ConditionReads.{SameCondition, reads_condition}
-use Rattle.np_syntax.proofs.ConditionPlaced.{placed_condition}
-use Rattle.np_syntax.proofs.EffectStarts.{starting_effect}
-use Rattle.np_syntax.proofs.EffectReads.{SameEffect, reads_effect}
-use Rattle.np_syntax.proofs.EffectPlaced.{placed_effect}
+use Rattle.np_conditions.proofs.ConditionStarts.{starting_condition}
+use Rattle.np_conditions.proofs.ConditionReads.{SameCondition, reads_condition}
+use Rattle.np_conditions.proofs.ConditionPlaced.{placed_condition}
+use Rattle.np_conditions.proofs.EffectStarts.{starting_effect}
+use Rattle.np_conditions.proofs.EffectReads.{SameEffect, reads_effect}
+use Rattle.np_conditions.proofs.EffectPlaced.{placed_effect}
 use Rattle.np_syntax.proofs.Sections.{starting_section, good_domain_with}
 use Rattle.np_syntax.proofs.SectionReads.{reads_domain_with, placed_domain_with}
 

@@ -12,8 +12,8 @@ use Rattle.np_read.proofs.Marked.{Placed, plain, only_mark, placed_expect, place
 use Rattle.np_read.proofs.EachRows.{reads_each_row}
 use Rattle.np_read.proofs.ItemChoices.{expect_nothing}
 use Rattle.np_read.proofs.PlacedParts.{MadeOf, IsAnyPlace, SamePlace, reads_placed, placed_placed}
-use Rattle.np_syntax.specs.declared.condition.Condition.{Condition}
-use Rattle.np_syntax.specs.declared.effect.Effect.{Effect}
+use Rattle.np_conditions.specs.declared.condition.Condition.{Condition}
+use Rattle.np_conditions.specs.declared.effect.Effect.{Effect}
 use Rattle.np_syntax.specs.declared.domain.Domain.{Domain}
 use Rattle.np_syntax.specs.declared.domain.Declared.{Declared}
 use Rattle.np_syntax.specs.declared.domain.DomainSection.{DomainSection}

@@ -14,8 +14,8 @@ use Rattle.np_read.proofs.Marked.{Placed, marked_at, placed_expect, placed_after
 use Rattle.np_read.proofs.ItemChoices.{expect_refused}
 use Rattle.np_read.proofs.PlacedLexing.{place_yes, place_no}
 use Rattle.np_read.proofs.PlacedParts.{Refuses, MadeOf, IsAnyPlace, SamePlace, said_by, place_is, starts_placed, starts_either_by, reads_either_by, placed_either_by, either_by_refuses, either_by_nothing, made_refuses, both_refuses, token_refuses, token_nothing, silent}
-use Rattle.np_syntax.specs.declared.condition.Condition.{Condition}
-use Rattle.np_syntax.specs.declared.effect.Effect.{Effect}
+use Rattle.np_conditions.specs.declared.condition.Condition.{Condition}
+use Rattle.np_conditions.specs.declared.effect.Effect.{Effect}
 use Rattle.np_syntax.specs.declared.domain.Domain.{Domain}
 use Rattle.np_syntax.specs.declared.domain.Declared.{Declared}
 use Rattle.np_syntax.specs.declared.domain.DomainSection.{DomainSection}

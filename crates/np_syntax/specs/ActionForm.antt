@@ -3,15 +3,15 @@ use Rattle.std.specs.Prelude.{ℕ, List, Option, codes}
 use Rattle.np_lex.specs.Tokens.{right}
 use Rattle.np_read.specs.ItemReaders.{Reader, expect, both, made}
 use Rattle.np_read.specs.PlacedReaders.{placed}
-use Rattle.np_syntax.specs.declared.condition.Condition.{Condition}
-use Rattle.np_syntax.specs.declared.effect.Effect.{Effect}
+use Rattle.np_conditions.specs.declared.condition.Condition.{Condition}
+use Rattle.np_conditions.specs.declared.effect.Effect.{Effect}
 use Rattle.np_syntax.specs.declared.domain.Domain.{Domain}
 use Rattle.np_syntax.specs.declared.domain.DomainSection.{DomainSection}
 use Rattle.np_syntax.specs.declared.domain.DomainSection.TheVariants as s
 use Rattle.np_syntax.specs.declared.read.actions.TheConstants.{DEPTH}
 use Rattle.np_words.specs.declared.word.Group.{Group}
-use Rattle.np_syntax.specs.ConditionForm.{condition}
-use Rattle.np_syntax.specs.EffectForm.{effect}
+use Rattle.np_conditions.specs.ConditionForm.{condition}
+use Rattle.np_conditions.specs.EffectForm.{effect}
 use Rattle.np_words.specs.ReadingForm.{name}
 use Rattle.np_syntax.specs.SectionForm.{parameters, section, domain_with}
 use Rattle.np_words.specs.TailedRows.{tail_or_none}

@@ -2,12 +2,12 @@
 use Rattle.std.specs.Prelude.{ℕ, suc, List, []}
 use Rattle.np_lex.specs.Tokens.{Lexeme}
 use Rattle.np_read.specs.Marks.{Mark}
-use Rattle.np_syntax.specs.declared.condition.Condition.{Condition}
-use Rattle.np_syntax.specs.declared.effect.Effect.{Effect}
+use Rattle.np_conditions.specs.declared.condition.Condition.{Condition}
+use Rattle.np_conditions.specs.declared.effect.Effect.{Effect}
 use Rattle.np_syntax.specs.declared.domain.Domain.{Domain}
 use Rattle.np_syntax.specs.ActionForm.{depth}
-use Rattle.np_syntax.specs.ConditionText.{condition, IsCondition, bare_condition}
-use Rattle.np_syntax.specs.EffectText.{effect, IsEffect, bare_effect}
+use Rattle.np_conditions.specs.ConditionText.{condition, IsCondition, bare_condition}
+use Rattle.np_conditions.specs.EffectText.{effect, IsEffect, bare_effect}
 use Rattle.np_syntax.specs.SectionText.{domain_with, IsDomainWith, bare_domain_with}
 use Rattle.np_words.specs.Text.{spelled, marked}
 use Rattle.np_words.specs.Texts.{IsSpelled, KeepsPlaces}

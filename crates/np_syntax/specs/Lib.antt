@@ -1,10 +1,6 @@
 pub mod ActionForm
-pub mod ConditionForm
-pub mod ConditionText
 pub mod DomainForm
 pub mod DomainText
 pub mod Domains
-pub mod EffectForm
-pub mod EffectText
 pub mod SectionForm
 pub mod SectionText

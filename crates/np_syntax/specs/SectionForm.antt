@@ -3,8 +3,8 @@ use Rattle.std.specs.Prelude.{List, Option, None, Some, codes}
 use Rattle.np_lex.specs.Tokens.{Lexeme, left, right, named}
 use Rattle.np_read.specs.ItemReaders.{Reader, expect, open_with, either, after, before, both, made, row}
 use Rattle.np_read.specs.PlacedReaders.{place_if, placed, either_by}
-use Rattle.np_syntax.specs.declared.condition.Condition.{Condition}
-use Rattle.np_syntax.specs.declared.effect.Effect.{Effect}
+use Rattle.np_conditions.specs.declared.condition.Condition.{Condition}
+use Rattle.np_conditions.specs.declared.effect.Effect.{Effect}
 use Rattle.np_syntax.specs.declared.domain.Domain.{Domain}
 use Rattle.np_syntax.specs.declared.domain.DomainSection.{DomainSection}
 use Rattle.np_syntax.specs.declared.domain.DomainSection.TheVariants as s

@@ -4,8 +4,8 @@ use Rattle.std.specs.Option.{option_map}
 use Rattle.np_lex.specs.declared.token.Place.{Place}
 use Rattle.np_lex.specs.Tokens.{Lexeme}
 use Rattle.np_read.specs.Marks.{each}
-use Rattle.np_syntax.specs.declared.condition.Condition.{Condition}
-use Rattle.np_syntax.specs.declared.effect.Effect.{Effect}
+use Rattle.np_conditions.specs.declared.condition.Condition.{Condition}
+use Rattle.np_conditions.specs.declared.effect.Effect.{Effect}
 use Rattle.np_syntax.specs.declared.domain.Domain.{Domain}
 use Rattle.np_syntax.specs.declared.domain.DomainSection.{DomainSection}
 use Rattle.np_syntax.specs.declared.domain.DomainSection.TheVariants as s

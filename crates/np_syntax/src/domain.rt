@@ -1,7 +1,6 @@
 //! Domains.
 
-use crate::condition::Condition;
-use crate::effect::Effect;
+use np_conditions::{Condition, Effect};
 use np_lex::Place;
 use np_words::{Group, Word};
 use sqlite_items::Items;

@@ -1,9 +1,7 @@
 //! Reading a text. What grammars of other texts share with that of domains is public.
 
 mod actions;
-mod conditions;
 mod declarations;
-mod effects;
 mod lists;
 mod sections;
 
@@ -18,9 +16,9 @@ ghost use Rattle.np_words.specs.declared.fault.ReadFault.TheVariants.{At, Number
 ghost use Rattle.np_lex.specs.declared.token.Place.{Place};
 
 use crate::domain::Domain;
-pub use conditions::condition;
 pub use declarations::requirements;
 pub use lists::typed_list;
+pub use np_conditions::read::condition;
 use np_lex::Lexer;
 use np_read::ReadFault as Stop;
 use np_words::ReadFault;

@@ -5,8 +5,8 @@ use Rattle.std.proofs.lemmas.List.Concat.{flat_map-append}
 use Rattle.std.proofs.lemmas.List.Sums.{fold-append}
 use Rattle.np_words.specs.declared.word.Word.{Word}
 use Rattle.np_words.specs.declared.word.Group.{Group}
-use Rattle.np_syntax.specs.declared.condition.Condition.{Condition}
-use Rattle.np_syntax.specs.declared.effect.Effect.{Effect}
+use Rattle.np_conditions.specs.declared.condition.Condition.{Condition}
+use Rattle.np_conditions.specs.declared.effect.Effect.{Effect}
 use Rattle.np_model.specs.declared.task.Action.{Action}
 use Rattle.np_model.specs.declared.task.Cond.{Cond}
 use Rattle.np_model.specs.declared.task.Eff.{Eff}

@@ -9,14 +9,14 @@ use Rattle.np_words.specs.declared.expr.Expr.{Expr}
 use Rattle.np_words.specs.declared.expr.Expr.TheFolds.{fold-Expr, fold-roll-Expr}
 use Rattle.np_words.specs.declared.expr.Expr.TheOpen.{Expr-F}
 use Rattle.np_words.specs.declared.expr.Expr.TheVariants as expr
-use Rattle.np_syntax.specs.declared.condition.Condition.{Condition}
-use Rattle.np_syntax.specs.declared.condition.Condition.TheFolds.{fold-roll-Condition}
-use Rattle.np_syntax.specs.declared.condition.Condition.TheOpen.{Condition-F}
-use Rattle.np_syntax.specs.declared.condition.Condition.TheVariants as condition
-use Rattle.np_syntax.specs.declared.effect.Effect.{Effect}
-use Rattle.np_syntax.specs.declared.effect.Effect.TheFolds.{fold-roll-Effect}
-use Rattle.np_syntax.specs.declared.effect.Effect.TheOpen.{Effect-F}
-use Rattle.np_syntax.specs.declared.effect.Effect.TheVariants as effect
+use Rattle.np_conditions.specs.declared.condition.Condition.{Condition}
+use Rattle.np_conditions.specs.declared.condition.Condition.TheFolds.{fold-roll-Condition}
+use Rattle.np_conditions.specs.declared.condition.Condition.TheOpen.{Condition-F}
+use Rattle.np_conditions.specs.declared.condition.Condition.TheVariants as condition
+use Rattle.np_conditions.specs.declared.effect.Effect.{Effect}
+use Rattle.np_conditions.specs.declared.effect.Effect.TheFolds.{fold-roll-Effect}
+use Rattle.np_conditions.specs.declared.effect.Effect.TheOpen.{Effect-F}
+use Rattle.np_conditions.specs.declared.effect.Effect.TheVariants as effect
 use Rattle.np_declared.specs.declared.fault.TypeFault.{TypeFault}
 use Rattle.np_typing.specs.Scopes.{Scope}
 use Rattle.np_typing.specs.Uses.{expr_faults_from, expr_faults, condition_faults_from, condition_faults, effect_faults_from, effect_faults}

@@ -5,7 +5,7 @@ use Rattle.std.proofs.lemmas.List.{append-nil}
 use Rattle.std.proofs.lemmas.List.Concat.{flat_map-append}
 use Rattle.std.proofs.lemmas.List.Sums.{fold-append}
 use Rattle.np_lex.specs.declared.token.Place.{Place}
-use Rattle.np_syntax.specs.declared.condition.Condition.{Condition}
+use Rattle.np_conditions.specs.declared.condition.Condition.{Condition}
 use Rattle.np_words.specs.declared.expr.Expr.{Expr}
 use Rattle.np_problem.specs.declared.problem.Fact.{Fact}
 use Rattle.np_problem.specs.declared.problem.ProblemSection.{ProblemSection}

@@ -19,16 +19,16 @@ use Rattle.np_words.specs.declared.word.Ident.TheVariants as ident
 use Rattle.np_words.specs.declared.expr.Expr.{Expr, out-Expr}
 use Rattle.np_words.specs.declared.expr.Expr.TheFolds.{fold-Expr}
 use Rattle.np_words.specs.declared.expr.Expr.TheOpen.{Expr-F}
-use Rattle.np_syntax.specs.declared.condition.Op.{Op as Comparison}
-use Rattle.np_syntax.specs.declared.condition.Op.TheVariants as comparison
-use Rattle.np_syntax.specs.declared.condition.Side.{Side}
-use Rattle.np_syntax.specs.declared.condition.Side.TheVariants as side
-use Rattle.np_syntax.specs.declared.condition.Condition.{Condition}
-use Rattle.np_syntax.specs.declared.condition.Condition.TheFolds.{fold-Condition}
-use Rattle.np_syntax.specs.declared.condition.Condition.TheOpen.{Condition-F}
-use Rattle.np_syntax.specs.declared.effect.Effect.{Effect}
-use Rattle.np_syntax.specs.declared.effect.Effect.TheFolds.{fold-Effect}
-use Rattle.np_syntax.specs.declared.effect.Effect.TheOpen.{Effect-F}
+use Rattle.np_conditions.specs.declared.condition.Op.{Op as Comparison}
+use Rattle.np_conditions.specs.declared.condition.Op.TheVariants as comparison
+use Rattle.np_conditions.specs.declared.condition.Side.{Side}
+use Rattle.np_conditions.specs.declared.condition.Side.TheVariants as side
+use Rattle.np_conditions.specs.declared.condition.Condition.{Condition}
+use Rattle.np_conditions.specs.declared.condition.Condition.TheFolds.{fold-Condition}
+use Rattle.np_conditions.specs.declared.condition.Condition.TheOpen.{Condition-F}
+use Rattle.np_conditions.specs.declared.effect.Effect.{Effect}
+use Rattle.np_conditions.specs.declared.effect.Effect.TheFolds.{fold-Effect}
+use Rattle.np_conditions.specs.declared.effect.Effect.TheOpen.{Effect-F}
 use Rattle.np_declared.specs.Names.{number_of}
 use Rattle.np_words.specs.Numbers.{fraction_of}
 use Rattle.np_typing.specs.Scopes.{Scope, ref_of}

@@ -2,8 +2,8 @@
 use Rattle.std.specs.Prelude.{false, List, [], ◌++◌, Option}
 use Rattle.std.specs.List.{flat_map}
 use Rattle.np_words.specs.declared.word.Group.{Group}
-use Rattle.np_syntax.specs.declared.condition.Condition.{Condition}
-use Rattle.np_syntax.specs.declared.effect.Effect.{Effect}
+use Rattle.np_conditions.specs.declared.condition.Condition.{Condition}
+use Rattle.np_conditions.specs.declared.effect.Effect.{Effect}
 use Rattle.np_syntax.specs.declared.domain.Domain.{Domain}
 use Rattle.np_syntax.specs.declared.domain.DomainSection.{DomainSection}
 use Rattle.np_syntax.specs.declared.domain.DomainSection.TheVariants as d

@@ -10,7 +10,7 @@ ghost use Rattle.np_read.specs.ItemAnswers.{Gives, Stops};
 ghost use Rattle.np_read.specs.ItemReaders as readers;
 ghost use Rattle.np_syntax.specs.DomainForm as domains;
 ghost use Rattle.np_words.specs.ReadingForm as words;
-ghost use Rattle.np_syntax.specs.declared.condition.Condition.{Condition};
+ghost use Rattle.np_conditions.specs.declared.condition.Condition.{Condition};
 ghost use Rattle.np_words.specs.declared.word.Group.{Group};
 ghost use Rattle.np_words.specs.declared.word.ListKind.TheVariants.{Names};
 ghost use Rattle.np_words.specs.declared.word.Word.{Word};

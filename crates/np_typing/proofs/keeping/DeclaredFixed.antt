@@ -14,10 +14,10 @@ use Rattle.np_model.specs.declared.task.Signature.{Signature}
 use Rattle.np_model.specs.Tasks.{FixedIsStatic, names_predicate, names_function}
 use Rattle.np_words.specs.declared.word.Word.{Word}
 use Rattle.np_words.specs.declared.word.Ident.{Ident}
-use Rattle.np_syntax.specs.declared.effect.Effect.{Effect, map-Effect}
-use Rattle.np_syntax.specs.declared.effect.Effect.TheFolds.{fold-roll-Effect}
-use Rattle.np_syntax.specs.declared.effect.Effect.TheOpen.{Effect-F}
-use Rattle.np_syntax.specs.declared.effect.Effect.TheViews.{roll-Effect}
+use Rattle.np_conditions.specs.declared.effect.Effect.{Effect, map-Effect}
+use Rattle.np_conditions.specs.declared.effect.Effect.TheFolds.{fold-roll-Effect}
+use Rattle.np_conditions.specs.declared.effect.Effect.TheOpen.{Effect-F}
+use Rattle.np_conditions.specs.declared.effect.Effect.TheViews.{roll-Effect}
 use Rattle.np_syntax.specs.declared.domain.Declared.{Declared}
 use Rattle.np_syntax.specs.declared.domain.Domain.{Domain}
 use Rattle.np_syntax.specs.declared.domain.DomainSection.{DomainSection}

@@ -9,16 +9,16 @@ use Rattle.np_words.specs.declared.expr.Expr.{Expr, map-Expr}
 use Rattle.np_words.specs.declared.expr.Expr.TheFolds.{ind-Expr}
 use Rattle.np_words.specs.declared.expr.Expr.TheOpen.{Expr-F}
 use Rattle.np_words.specs.declared.expr.Expr.TheViews.{roll-Expr}
-use Rattle.np_syntax.specs.declared.condition.Op.{Op}
-use Rattle.np_syntax.specs.declared.condition.Side.{Side}
-use Rattle.np_syntax.specs.declared.condition.Condition.{Condition, map-Condition}
-use Rattle.np_syntax.specs.declared.condition.Condition.TheFolds.{ind-Condition}
-use Rattle.np_syntax.specs.declared.condition.Condition.TheOpen.{Condition-F}
-use Rattle.np_syntax.specs.declared.condition.Condition.TheViews.{roll-Condition}
-use Rattle.np_syntax.specs.declared.effect.Effect.{Effect, map-Effect}
-use Rattle.np_syntax.specs.declared.effect.Effect.TheFolds.{ind-Effect}
-use Rattle.np_syntax.specs.declared.effect.Effect.TheOpen.{Effect-F}
-use Rattle.np_syntax.specs.declared.effect.Effect.TheViews.{roll-Effect}
+use Rattle.np_conditions.specs.declared.condition.Op.{Op}
+use Rattle.np_conditions.specs.declared.condition.Side.{Side}
+use Rattle.np_conditions.specs.declared.condition.Condition.{Condition, map-Condition}
+use Rattle.np_conditions.specs.declared.condition.Condition.TheFolds.{ind-Condition}
+use Rattle.np_conditions.specs.declared.condition.Condition.TheOpen.{Condition-F}
+use Rattle.np_conditions.specs.declared.condition.Condition.TheViews.{roll-Condition}
+use Rattle.np_conditions.specs.declared.effect.Effect.{Effect, map-Effect}
+use Rattle.np_conditions.specs.declared.effect.Effect.TheFolds.{ind-Effect}
+use Rattle.np_conditions.specs.declared.effect.Effect.TheOpen.{Effect-F}
+use Rattle.np_conditions.specs.declared.effect.Effect.TheViews.{roll-Effect}
 
 -- items, each with what is shown of it
 all_shown : {A : Type 0} (P : A → Type 0) (ys : List ((x : A) × P x)) → All P (map (λ y. y.0) ys)

@@ -12,14 +12,14 @@ use Rattle.np_words.specs.declared.word.Word.{Word}
 use Rattle.np_words.specs.declared.word.Group.{Group}
 use Rattle.np_words.specs.declared.word.ListKind.{ListKind}
 use Rattle.np_words.specs.declared.word.ListKind.TheVariants.{Names, Variables}
-use Rattle.np_syntax.specs.declared.condition.Condition.{Condition}
-use Rattle.np_syntax.specs.declared.effect.Effect.{Effect}
+use Rattle.np_conditions.specs.declared.condition.Condition.{Condition}
+use Rattle.np_conditions.specs.declared.effect.Effect.{Effect}
 use Rattle.np_syntax.specs.declared.domain.Declared.{Declared}
 use Rattle.np_syntax.specs.declared.domain.Domain.{Domain}
 use Rattle.np_syntax.specs.declared.domain.DomainSection.{DomainSection}
 use Rattle.np_syntax.specs.declared.domain.DomainSection.TheVariants as d
-use Rattle.np_syntax.specs.ConditionText.{condition}
-use Rattle.np_syntax.specs.EffectText.{effect}
+use Rattle.np_conditions.specs.ConditionText.{condition}
+use Rattle.np_conditions.specs.EffectText.{effect}
 use Rattle.np_syntax.specs.DomainText.{declared, function, number_mark}
 use Rattle.np_syntax.specs.Domains.{domain_text}
 use Rattle.np_syntax.specs.SectionText.{parameters, action_parts, section}

@@ -14,16 +14,16 @@ use Rattle.np_words.specs.declared.expr.Expr.{Expr, out-Expr}
 use Rattle.np_words.specs.declared.expr.Expr.TheFolds.{fold-roll-Expr}
 use Rattle.np_words.specs.declared.expr.Expr.TheOpen.{Expr-F}
 use Rattle.np_words.specs.declared.expr.Expr.TheViews.{roll-Expr, roll-out-Expr}
-use Rattle.np_syntax.specs.declared.condition.Op.{Op}
-use Rattle.np_syntax.specs.declared.condition.Side.{Side}
-use Rattle.np_syntax.specs.declared.condition.Condition.{Condition}
-use Rattle.np_syntax.specs.declared.condition.Condition.TheFolds.{fold-roll-Condition}
-use Rattle.np_syntax.specs.declared.condition.Condition.TheOpen.{Condition-F}
-use Rattle.np_syntax.specs.declared.condition.Condition.TheViews.{roll-Condition}
-use Rattle.np_syntax.specs.declared.effect.Effect.{Effect}
-use Rattle.np_syntax.specs.declared.effect.Effect.TheFolds.{fold-roll-Effect}
-use Rattle.np_syntax.specs.declared.effect.Effect.TheOpen.{Effect-F}
-use Rattle.np_syntax.specs.declared.effect.Effect.TheViews.{roll-Effect}
+use Rattle.np_conditions.specs.declared.condition.Op.{Op}
+use Rattle.np_conditions.specs.declared.condition.Side.{Side}
+use Rattle.np_conditions.specs.declared.condition.Condition.{Condition}
+use Rattle.np_conditions.specs.declared.condition.Condition.TheFolds.{fold-roll-Condition}
+use Rattle.np_conditions.specs.declared.condition.Condition.TheOpen.{Condition-F}
+use Rattle.np_conditions.specs.declared.condition.Condition.TheViews.{roll-Condition}
+use Rattle.np_conditions.specs.declared.effect.Effect.{Effect}
+use Rattle.np_conditions.specs.declared.effect.Effect.TheFolds.{fold-roll-Effect}
+use Rattle.np_conditions.specs.declared.effect.Effect.TheOpen.{Effect-F}
+use Rattle.np_conditions.specs.declared.effect.Effect.TheViews.{roll-Effect}
 use Rattle.np_words.specs.ExprText.{IsPlain, IsExprOf, IsExpr}
 use Rattle.np_typing.specs.Scopes.{Scope}
 use Rattle.np_typing.specs.Resolved.{sum_of, sum_from}

@@ -7,8 +7,8 @@ use Rattle.np_lex.specs.declared.token.Place.{Place}
 use Rattle.np_model.specs.Tasks.{IsSignature, AreTypes}
 use Rattle.np_words.specs.declared.word.Word.{Word}
 use Rattle.np_words.specs.declared.word.Group.{Group}
-use Rattle.np_syntax.specs.declared.condition.Condition.{Condition}
-use Rattle.np_syntax.specs.declared.effect.Effect.{Effect}
+use Rattle.np_conditions.specs.declared.condition.Condition.{Condition}
+use Rattle.np_conditions.specs.declared.effect.Effect.{Effect}
 use Rattle.np_syntax.specs.declared.domain.Declared.{Declared}
 use Rattle.np_syntax.specs.declared.domain.Domain.{Domain}
 use Rattle.np_syntax.specs.declared.domain.DomainSection.{DomainSection}

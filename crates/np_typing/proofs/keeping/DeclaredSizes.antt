@@ -13,18 +13,18 @@ use Rattle.np_words.specs.declared.expr.Expr.{Expr, map-Expr}
 use Rattle.np_words.specs.declared.expr.Expr.TheFolds.{fold-Expr, fold-roll-Expr}
 use Rattle.np_words.specs.declared.expr.Expr.TheOpen.{Expr-F}
 use Rattle.np_words.specs.declared.expr.Expr.TheViews.{roll-Expr}
-use Rattle.np_syntax.specs.declared.condition.Side.{Side}
-use Rattle.np_syntax.specs.declared.condition.Side.TheVariants as side
-use Rattle.np_syntax.specs.declared.condition.Condition.{Condition, map-Condition}
-use Rattle.np_syntax.specs.declared.condition.Condition.TheFolds.{fold-Condition, fold-roll-Condition}
-use Rattle.np_syntax.specs.declared.condition.Condition.TheOpen.{Condition-F}
-use Rattle.np_syntax.specs.declared.condition.Condition.TheViews.{roll-Condition}
-use Rattle.np_syntax.specs.declared.effect.Effect.{Effect, map-Effect}
-use Rattle.np_syntax.specs.declared.effect.Effect.TheFolds.{fold-Effect, fold-roll-Effect}
-use Rattle.np_syntax.specs.declared.effect.Effect.TheOpen.{Effect-F}
-use Rattle.np_syntax.specs.declared.effect.Effect.TheViews.{roll-Effect}
-use Rattle.np_syntax.specs.ConditionText.{condition, condition_step, side_text}
-use Rattle.np_syntax.specs.EffectText.{effect, effect_step, target_text}
+use Rattle.np_conditions.specs.declared.condition.Side.{Side}
+use Rattle.np_conditions.specs.declared.condition.Side.TheVariants as side
+use Rattle.np_conditions.specs.declared.condition.Condition.{Condition, map-Condition}
+use Rattle.np_conditions.specs.declared.condition.Condition.TheFolds.{fold-Condition, fold-roll-Condition}
+use Rattle.np_conditions.specs.declared.condition.Condition.TheOpen.{Condition-F}
+use Rattle.np_conditions.specs.declared.condition.Condition.TheViews.{roll-Condition}
+use Rattle.np_conditions.specs.declared.effect.Effect.{Effect, map-Effect}
+use Rattle.np_conditions.specs.declared.effect.Effect.TheFolds.{fold-Effect, fold-roll-Effect}
+use Rattle.np_conditions.specs.declared.effect.Effect.TheOpen.{Effect-F}
+use Rattle.np_conditions.specs.declared.effect.Effect.TheViews.{roll-Effect}
+use Rattle.np_conditions.specs.ConditionText.{condition, condition_step, side_text}
+use Rattle.np_conditions.specs.EffectText.{effect, effect_step, target_text}
 use Rattle.np_words.specs.ExprText.{expr, expr_at, expr_step}
 use Rattle.np_words.specs.Text.{Printer, spelled, right, identifier, call}
 use Rattle.np_typing.specs.Scopes.{Scope}

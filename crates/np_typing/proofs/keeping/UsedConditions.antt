@@ -12,13 +12,13 @@ use Rattle.np_model.specs.Tasks.{is_sum, is_condition, type_of_ref}
 use Rattle.np_words.specs.declared.word.Word.{Word}
 use Rattle.np_words.specs.declared.word.Ident.TheVariants as ident
 use Rattle.np_words.specs.declared.expr.Expr.{Expr, out-Expr}
-use Rattle.np_syntax.specs.declared.condition.Side.{Side}
-use Rattle.np_syntax.specs.declared.condition.Side.TheVariants as side
-use Rattle.np_syntax.specs.declared.condition.Condition.{Condition, out-Condition}
-use Rattle.np_syntax.specs.declared.condition.Condition.TheFolds.{fold-Condition, fold-roll-Condition, map-Condition}
-use Rattle.np_syntax.specs.declared.condition.Condition.TheOpen.{Condition-F}
-use Rattle.np_syntax.specs.declared.condition.Condition.TheViews.{roll-out-Condition}
-use Rattle.np_syntax.specs.ConditionText.{IsSide, InBracket, IsConditionOf, IsCondition}
+use Rattle.np_conditions.specs.declared.condition.Side.{Side}
+use Rattle.np_conditions.specs.declared.condition.Side.TheVariants as side
+use Rattle.np_conditions.specs.declared.condition.Condition.{Condition, out-Condition}
+use Rattle.np_conditions.specs.declared.condition.Condition.TheFolds.{fold-Condition, fold-roll-Condition, map-Condition}
+use Rattle.np_conditions.specs.declared.condition.Condition.TheOpen.{Condition-F}
+use Rattle.np_conditions.specs.declared.condition.Condition.TheViews.{roll-out-Condition}
+use Rattle.np_conditions.specs.ConditionText.{IsSide, InBracket, IsConditionOf, IsCondition}
 use Rattle.np_words.specs.ExprText.{IsExpr}
 use Rattle.np_declared.specs.declared.fault.TypeFault.{TypeFault}
 use Rattle.np_typing.specs.Scopes.{Scope}

@@ -10,11 +10,11 @@ use Rattle.np_model.specs.Tasks.{is_effect}
 use Rattle.np_words.specs.declared.word.Word.{Word}
 use Rattle.np_words.specs.declared.word.Ident.{Ident}
 use Rattle.np_words.specs.declared.expr.Expr.{Expr}
-use Rattle.np_syntax.specs.declared.effect.Effect.{Effect, out-Effect}
-use Rattle.np_syntax.specs.declared.effect.Effect.TheFolds.{fold-Effect, fold-roll-Effect, map-Effect}
-use Rattle.np_syntax.specs.declared.effect.Effect.TheOpen.{Effect-F}
-use Rattle.np_syntax.specs.declared.effect.Effect.TheViews.{roll-out-Effect}
-use Rattle.np_syntax.specs.EffectText.{IsEffectOf, IsEffect}
+use Rattle.np_conditions.specs.declared.effect.Effect.{Effect, out-Effect}
+use Rattle.np_conditions.specs.declared.effect.Effect.TheFolds.{fold-Effect, fold-roll-Effect, map-Effect}
+use Rattle.np_conditions.specs.declared.effect.Effect.TheOpen.{Effect-F}
+use Rattle.np_conditions.specs.declared.effect.Effect.TheViews.{roll-out-Effect}
+use Rattle.np_conditions.specs.EffectText.{IsEffectOf, IsEffect}
 use Rattle.np_words.specs.ExprText.{IsExpr}
 use Rattle.np_declared.specs.declared.fault.TypeFault.{TypeFault}
 use Rattle.np_typing.specs.Scopes.{Scope}

@@ -1,6 +1,6 @@
 use Rattle.std.proofs.Common.{◌≡◌, List, ◌++◌, sym, ap, ◌∙◌}
 use Rattle.np_model.specs.declared.task.Cond.{Cond}
-use Rattle.np_syntax.specs.declared.condition.Condition.TheVariants as condition
+use Rattle.np_conditions.specs.declared.condition.Condition.TheVariants as condition
 use Rattle.np_typing.proofs.UsesAnswers.{answers_same}
 use Rattle.np_typing.proofs.UsesFolds.{faults_of_conditions, conditions_of_parts}
 use Rattle.np_typing.proofs.uses.conditions.+conditions.Goals as goal

@@ -1,6 +1,6 @@
 use Rattle.std.proofs.Common.{◌≡◌, List, ◌++◌, sym, ap, ◌∙◌}
 use Rattle.np_model.specs.declared.task.Eff.{Eff}
-use Rattle.np_syntax.specs.declared.effect.Effect.TheVariants as effect
+use Rattle.np_conditions.specs.declared.effect.Effect.TheVariants as effect
 use Rattle.np_typing.proofs.UsesAnswers.{answers_same}
 use Rattle.np_typing.proofs.UsesFolds.{faults_of_effects, effects_of_parts}
 use Rattle.np_typing.proofs.uses.effects.+effects.Goals as goal

@@ -1,0 +1,13 @@
+pub mod ConditionKinds
+pub mod ConditionLexing
+pub mod ConditionPlaced
+pub mod ConditionReads
+pub mod ConditionStarts
+pub mod ConditionTexts
+pub mod EffectKinds
+pub mod EffectLexing
+pub mod EffectPlaced
+pub mod EffectReads
+pub mod EffectStarts
+pub mod EffectTexts
+pub mod Sides

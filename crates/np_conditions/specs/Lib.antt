@@ -1,0 +1,4 @@
+pub mod ConditionForm
+pub mod ConditionText
+pub mod EffectForm
+pub mod EffectText
