@@ -9,10 +9,11 @@ use Rattle.np_words.specs.declared.word.Group.{Group}
 use Rattle.np_syntax.specs.declared.domain.Declared.{Declared}
 use Rattle.np_syntax.specs.declared.domain.Domain.{Domain}
 use Rattle.np_problem.specs.declared.problem.Problem.{Problem}
-use Rattle.np_declared.specs.declared.declarations.Declarations.{Declarations}
-use Rattle.np_declared.specs.Declarations.{all_types, all_constants, all_predicates, all_functions, all_objects, names_of}
-use Rattle.np_declared.specs.LookUps.{HasDeclared, HasTables}
-use Rattle.np_declared.specs.Names.{texts, firsts, words_of, typed, typed_words}
+use Rattle.np_names.specs.declared.declarations.Declarations.{Declarations}
+use Rattle.np_names.specs.Declarations.{all_types, all_constants, all_predicates, all_functions, all_objects, names_of}
+use Rattle.np_names.specs.DeclaredNames.{HasDeclared}
+use Rattle.np_declared.specs.LookUps.{HasTables}
+use Rattle.np_names.specs.Names.{texts, firsts, words_of, typed, typed_words}
 use Rattle.np_declared.specs.Symbols.{type_names_of, object_names, symbol_names}
 use Rattle.np_declared.specs.Symbols.{signature, objects_of, all_touched, all_changed}
 use Rattle.np_declared.specs.Types.{type_names, type_named, types_of, object_in, objects_in}

@@ -1,12 +1,5 @@
-pub mod Answering
-pub mod SectionLaws
-pub mod Repeats
-pub mod NameSets
-pub mod Lists
-pub mod DeclarationLaws
 pub mod TableLaws
 pub mod SupertypeLaws
-pub mod Stepping
 pub mod HasTables
 pub mod TaskFaults
 pub mod TouchedLaws

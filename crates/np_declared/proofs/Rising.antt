@@ -4,7 +4,7 @@ use Rattle.std.specs.Prelude.{◌||◌, ◌==◌}
 use Rattle.std.proofs.lemmas.Bool.{ne_eqb}
 use Rattle.np_model.specs.declared.task.TypeName.{TypeName}
 use Rattle.np_model.specs.Types.{parent_of, leads_within}
-use Rattle.np_declared.specs.Declarations.{is_under_itself}
+use Rattle.np_declared.specs.TypeRules.{is_under_itself}
 use Rattle.np_declared.specs.Ranks.{rank_of, NeverFall}
 
 module _ (types : List TypeName) (ranks : List ℕ) (h : NeverFall types ranks) where

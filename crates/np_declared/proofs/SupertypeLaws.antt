@@ -12,10 +12,10 @@ use Rattle.std.specs.Option.{option_map_or}
 use Rattle.np_words.specs.declared.word.Word.{Word}
 use Rattle.np_words.specs.declared.word.Group.{Group}
 use Rattle.np_syntax.specs.declared.domain.DomainSection.{DomainSection}
-use Rattle.np_declared.proofs.Lists.{flat_map_end}
-use Rattle.np_declared.specs.Declarations.{type_groups}
+use Rattle.np_names.proofs.Lists.{flat_map_end}
+use Rattle.np_names.specs.Declarations.{type_groups}
 use Rattle.np_declared.specs.LookUps.{HasSupertypes}
-use Rattle.np_declared.specs.Names.{typed, typed_words, object, number_of, with_name, is_among, texts}
+use Rattle.np_names.specs.Names.{typed, typed_words, object, number_of, with_name, is_among, texts}
 use Rattle.np_declared.specs.Types.{supertype_with, type_names, type_named, type_words}
 
 abbrev Key : Type 0

@@ -9,11 +9,11 @@ use Rattle.np_words.specs.declared.word.Word.{Word}
 use Rattle.np_words.specs.declared.word.Group.{Group}
 use Rattle.np_syntax.specs.declared.domain.Declared.{Declared}
 use Rattle.np_model.specs.declared.task.TypeName.{TypeName}
-use Rattle.np_declared.specs.Declarations.{unknown_in, cyclic_words, is_cyclic}
-use Rattle.np_declared.specs.Names.{given_word, typed, typed_words, is_among, with_name, firsts}
+use Rattle.np_declared.specs.TypeRules.{unknown_in, cyclic_words, is_cyclic}
+use Rattle.np_names.specs.Names.{given_word, typed, typed_words, is_among, with_name, firsts}
 use Rattle.np_declared.specs.Symbols.{signature}
 use Rattle.np_declared.specs.Types.{type_number, numbers_in, object_in, objects_in, type_words}
-use Rattle.np_declared.proofs.Lists.{flat_map_next}
+use Rattle.np_names.proofs.Lists.{flat_map_next}
 
 -- words of one type
 typed_numbers : (types : List (List ℕ)) (of : Option Word) (ws : List Word) → map (λ x. type_number types x.1) (typed of ws) ≡ map (λ _. type_number types of) ws

@@ -2,11 +2,12 @@
 use Rattle.std.proofs.Common.{◌≡◌, List, [], ◌++◌, sym, ◌∙◌, append_assoc, append-nil}
 use Rattle.np_syntax.specs.declared.domain.Domain.{Domain}
 use Rattle.np_problem.specs.declared.problem.Problem.{Problem}
-use Rattle.np_declared.specs.declared.fault.TypeFault.{TypeFault}
-use Rattle.np_declared.specs.Answers.{IsFirst}
-use Rattle.np_declared.specs.Declarations.{names_twice, problem_names_twice, type_cycles, unknown_types, problem_unknown_types}
+use Rattle.np_names.specs.declared.fault.TypeFault.{TypeFault}
+use Rattle.np_names.specs.Answers.{IsFirst}
+use Rattle.np_names.specs.Declarations.{names_twice, problem_names_twice}
+use Rattle.np_declared.specs.TypeRules.{type_cycles, unknown_types, problem_unknown_types}
 use Rattle.np_declared.specs.Rules.{declaration_faults}
-use Rattle.np_declared.proofs.Answering.{first_in, rest_of}
+use Rattle.np_names.proofs.Answering.{first_in, rest_of}
 
 module _ (domain : Domain) (problem : Problem) where
   abbrev names : List TypeFault

@@ -6,9 +6,9 @@ use Rattle.np_conditions.specs.declared.effect.Effect.{Effect}
 use Rattle.np_conditions.specs.declared.effect.Effect.TheFolds.{fold-roll-Effect}
 use Rattle.np_conditions.specs.declared.effect.Effect.TheOpen.{Effect-F}
 use Rattle.np_conditions.specs.declared.effect.Effect.TheVariants as e
-use Rattle.np_declared.specs.declared.fault.TypeFault.{TypeFault}
-use Rattle.np_declared.specs.Answers.{Answers}
-use Rattle.np_declared.specs.Names.{with_name, texts}
+use Rattle.np_names.specs.declared.fault.TypeFault.{TypeFault}
+use Rattle.np_names.specs.Answers.{Answers}
+use Rattle.np_names.specs.Names.{with_name, texts}
 use Rattle.np_declared.specs.Symbols.{touched, touched_from, changed, changed_from}
 
 joined : (f : Effect → List Word) (parts : List Effect) → flat_map (λ part. part) (map f parts) ≡ flat_map f parts

@@ -1,12 +1,7 @@
-pub mod Names
 pub mod Types
-pub mod Faults
-pub mod Sections
-pub mod Declarations
+pub mod TypeRules
 pub mod Symbols
 pub mod Rules
-pub mod Answers
-pub mod NameSets
 pub mod ScopeNames
 pub mod LookUps
 pub mod Ranks

@@ -1,18 +1,15 @@
--- What the code's tables hold: look-ups of names, and what sections gave so far.
+-- What the look-ups and tables of the code hold.
 use Rattle.std.specs.Borrow.{Bor}
-use Rattle.std.specs.Prelude.{◌≡◌, ℕ, List, ◌++◌, fold, bytes_eq, Option}
-use Rattle.std.specs.List.{flat_map}
+use Rattle.std.specs.Prelude.{◌≡◌, ℕ, List, fold, bytes_eq, Option}
 use Rattle.std.specs.HashMap.{HashMap, get}
 use Rattle.std.specs.Option.{option_map_or}
 use Rattle.np_words.specs.declared.word.Word.{Word}
 use Rattle.np_syntax.specs.declared.domain.Domain.{Domain}
-use Rattle.np_syntax.specs.declared.domain.DomainSection.{DomainSection}
 use Rattle.np_problem.specs.declared.problem.Problem.{Problem}
-use Rattle.np_declared.specs.declared.declarations.Declarations.{Declarations}
 use Rattle.np_declared.specs.declared.tables.Tables.{Tables}
-use Rattle.np_declared.specs.Names.{texts, words_of, object}
+use Rattle.np_names.specs.Names.{object}
 use Rattle.np_declared.specs.Types.{supertype_with, types_of}
-use Rattle.np_declared.specs.Declarations.{listed_types, names_of, type_groups, constant_groups, declared_predicates, declared_functions, action_names, all_types, all_constants, all_predicates, all_functions, all_objects}
+use Rattle.np_names.specs.Declarations.{all_types}
 use Rattle.np_declared.specs.ScopeNames.{ScopeAgrees}
 use Rattle.np_declared.specs.Symbols.{type_names_of, objects_of, predicates_of, functions_of}
 
@@ -22,23 +19,6 @@ use Rattle.np_declared.specs.Symbols.{type_names_of, objects_of, predicates_of, 
 abbrev pub HasSupertypes : {S : Type 0} → List (Word × Option Word) → HashMap (Bor (List ℕ)) (Bor (List ℕ)) S → Type 0
 HasSupertypes before map =
     (q : Bor (List ℕ)) → option_map_or (λ (v : Bor (List ℕ)). v.now) (get (λ x y. bytes_eq x.now y.now) map q) object ≡ fold (supertype_with q.now) object before
-
--- ---- declarations
-
--- what the sections of a domain declare
-pub record HasNames (before : List DomainSection) (all : Declarations) : Type 0 where
-  pub types : all.types ≡ texts (listed_types (flat_map type_groups before))
-  pub objects : all.objects ≡ texts (words_of (flat_map constant_groups before))
-  pub predicates : all.predicates ≡ texts (names_of (flat_map declared_predicates before))
-  pub functions : all.functions ≡ texts (names_of (flat_map declared_functions before))
-  pub actions : all.actions ≡ texts (flat_map action_names before)
-
--- what both declare
-pub record HasDeclared (domain : Domain) (problem : Problem) (all : Declarations) : Type 0 where
-  pub objects : all.objects ≡ texts (words_of (all_constants domain ++ all_objects problem))
-  pub predicates : all.predicates ≡ texts (names_of (all_predicates domain))
-  pub functions : all.functions ≡ texts (names_of (all_functions domain))
-  pub actions : all.actions ≡ texts (flat_map action_names domain.sections)
 
 -- ---- tables
 

@@ -13,9 +13,9 @@ use Rattle.np_syntax.specs.declared.domain.Domain.{Domain}
 use Rattle.np_syntax.specs.declared.domain.DomainSection.{DomainSection}
 use Rattle.np_syntax.specs.declared.domain.DomainSection.TheVariants as d
 use Rattle.np_problem.specs.declared.problem.Problem.{Problem}
-use Rattle.np_declared.specs.Names.{texts, is_among}
+use Rattle.np_names.specs.Names.{texts, is_among}
 use Rattle.np_declared.specs.Types.{type_names, numbers_in, objects_in}
-use Rattle.np_declared.specs.Declarations.{all_types, all_constants, all_predicates, all_functions, all_objects}
+use Rattle.np_names.specs.Declarations.{all_types, all_constants, all_predicates, all_functions, all_objects}
 
 -- ---- names of what is declared
 

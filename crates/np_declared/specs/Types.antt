@@ -5,7 +5,7 @@ use Rattle.np_model.specs.declared.task.TypeName.{TypeName}
 use Rattle.np_model.specs.declared.task.Object.{Object}
 use Rattle.np_words.specs.declared.word.Word.{Word}
 use Rattle.np_words.specs.declared.word.Group.{Group}
-use Rattle.np_declared.specs.Names.{texts, firsts, number_of, given_word, typed_words, object}
+use Rattle.np_names.specs.Names.{texts, firsts, number_of, given_word, typed_words, object}
 
 -- the words of a group of `:types`, its supertype included
 abbrev pub type_words : Group → List Word

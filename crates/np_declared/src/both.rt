@@ -1,16 +1,15 @@
 //! What a domain and a problem declare.
 ghost use Rattle.std.specs.Prelude.{◌≡◌, IfOk};
-ghost use Rattle.np_declared.specs.Answers.{Answers};
+ghost use Rattle.np_names.specs.Answers.{Answers};
 ghost use Rattle.np_declared.specs.LookUps.{HasTables};
-ghost use Rattle.np_declared.specs.Names.{object};
+ghost use Rattle.np_names.specs.Names.{object};
 ghost use Rattle.np_declared.specs.Rules.{declaration_faults};
 
-use crate::declarations::declared_names;
-use crate::fault::TypeFault;
 use crate::tables::{Tables, numbered};
 use crate::types::type_table;
 use crate::unknown::known;
 use np_model::Name;
+use np_names::{TypeFault, declared_names};
 use np_problem::Problem;
 use np_syntax::Domain;
 use std::alloc::{AllocError, Global};

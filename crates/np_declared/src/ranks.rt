@@ -1,6 +1,6 @@
 //! Whether a type is under itself. Ranks show at once which types aren't, so that not each has to be followed up to `object`.
 ghost use Rattle.std.specs.Prelude.{◌≡◌, ◌<◌, length, IfOk, IsTrue};
-ghost use Rattle.np_declared.specs.Declarations.{is_under_itself};
+ghost use Rattle.np_declared.specs.TypeRules.{is_under_itself};
 ghost use Rattle.np_declared.specs.Ranks.{rank_of, NeverFall};
 
 use np_model::{TypeName, is_under, parent_of};

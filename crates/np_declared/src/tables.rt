@@ -1,19 +1,20 @@
 //! What is declared, by number.
 ghost use Rattle.std.specs.Prelude.{◌≡◌, ◌++◌, ◌∷◌, [], map, IfOk};
 ghost use Rattle.np_model.specs.declared.task.Object.{Object};
-ghost use Rattle.np_declared.specs.Answers.{Answers};
-ghost use Rattle.np_declared.specs.Declarations.{all_types, all_constants, all_predicates, all_functions, all_objects};
-ghost use Rattle.np_declared.specs.LookUps.{HasDeclared, HasTables};
+ghost use Rattle.np_names.specs.Answers.{Answers};
+ghost use Rattle.np_names.specs.Declarations.{all_types, all_constants, all_predicates, all_functions, all_objects};
+ghost use Rattle.np_names.specs.DeclaredNames.{HasDeclared};
+ghost use Rattle.np_declared.specs.LookUps.{HasTables};
 ghost use Rattle.np_declared.specs.Symbols.{signature, objects_of, all_touched, all_changed};
 ghost use Rattle.np_declared.specs.Types.{type_names, types_of, type_number, numbers_in, objects_in};
 
-use crate::declarations::Declarations;
-use crate::fault::TypeFault;
-use crate::names::{Names, copy};
-use crate::parts::{constant_groups, declared_functions, declared_predicates, object_groups};
 use crate::touched::touched_symbols;
 use crate::types::TypeTable;
 use np_model::{Object, Signature, TypeName};
+use np_names::{
+    Declarations, Names, TypeFault, constant_groups, copy, declared_functions, declared_predicates,
+    object_groups,
+};
 use np_problem::Problem;
 use np_syntax::{Declared, Domain, Group, Word};
 use sqlite_items::Items;

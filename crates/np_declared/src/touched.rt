@@ -1,12 +1,11 @@
 //! The symbols that effects name.
 ghost use Rattle.std.specs.Prelude.{◌≡◌, [], fold};
 ghost use Rattle.std.specs.List.{flat_map};
-ghost use Rattle.np_declared.specs.Answers.{Answers};
-ghost use Rattle.np_declared.specs.Names.{with_name, firsts, texts};
+ghost use Rattle.np_names.specs.Answers.{Answers};
+ghost use Rattle.np_names.specs.Names.{with_name, firsts, texts};
 ghost use Rattle.np_declared.specs.Symbols.{touched, changed, section_touched, section_changed, all_touched, all_changed};
 
-use crate::fault::TypeFault;
-use crate::names::Names;
+use np_names::{Names, TypeFault};
 use np_syntax::{Domain, DomainSection, Effect};
 use std::alloc::Global;
 

@@ -1,24 +1,22 @@
 //! The types of a domain: their numbers, what each is under, and that none is under itself.
 ghost use Rattle.std.specs.Prelude.{◌≡◌, ◌++◌, ◌∷◌, [], map, fold, filter, List, Option};
 ghost use Rattle.std.specs.List.{flat_map};
-ghost use Rattle.np_declared.specs.Answers.{Answers};
-ghost use Rattle.np_declared.specs.Declarations.{all_types, type_cycles, cyclic_words, is_cyclic};
-ghost use Rattle.np_declared.specs.Faults.{faults_of};
+ghost use Rattle.np_names.specs.Answers.{Answers};
+ghost use Rattle.np_names.specs.Declarations.{all_types};
+ghost use Rattle.np_declared.specs.TypeRules.{type_cycles, cyclic_words, is_cyclic};
+ghost use Rattle.np_names.specs.Faults.{faults_of};
 ghost use Rattle.np_declared.specs.LookUps.{HasSupertypes};
-ghost use Rattle.np_declared.specs.Names.{with_name, texts, number_of, typed, typed_words, object};
+ghost use Rattle.np_names.specs.Names.{with_name, texts, number_of, typed, typed_words, object};
 ghost use Rattle.np_declared.specs.Ranks.{NeverFall};
 ghost use Rattle.np_declared.specs.Symbols.{type_names_of};
 ghost use Rattle.np_declared.specs.Types.{type_words, type_names, supertype, type_named, types_of};
 ghost use Rattle.np_words.specs.declared.word.Group.{Group};
 ghost use Rattle.np_words.specs.declared.word.Word.{Word};
 
-use crate::declarations::is_object;
-use crate::fault::{Source, TypeFault, TypeWhy};
-use crate::names::{Names, copy};
-use crate::parts::type_groups;
 use crate::ranks::{is_under_itself, ranks_of};
 use indexmap::IndexMap;
 use np_model::{Name, TypeName};
+use np_names::{Names, Source, TypeFault, TypeWhy, copy, is_object, type_groups};
 use np_syntax::{Domain, Group, Word};
 use sqlite_items::Items;
 use std::alloc::{AllocError, Global};

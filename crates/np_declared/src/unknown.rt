@@ -1,15 +1,14 @@
 //! Types that aren't declared.
 ghost use Rattle.std.specs.Prelude.{◌≡◌, ◌++◌, not, filter, map};
 ghost use Rattle.std.specs.List.{flat_map};
-ghost use Rattle.np_declared.specs.Names.{given, given_word, is_among};
+ghost use Rattle.np_names.specs.Names.{given, given_word, is_among};
 ghost use Rattle.np_declared.specs.Types.{type_names};
-ghost use Rattle.np_declared.specs.Faults.{faults_of};
-ghost use Rattle.np_declared.specs.Answers.{Answers};
-ghost use Rattle.np_declared.specs.Declarations.{all_types, all_objects, unknown_in, section_unknown, unknown_types, problem_unknown_types};
+ghost use Rattle.np_names.specs.Faults.{faults_of};
+ghost use Rattle.np_names.specs.Answers.{Answers};
+ghost use Rattle.np_names.specs.Declarations.{all_types, all_objects};
+ghost use Rattle.np_declared.specs.TypeRules.{unknown_in, section_unknown, unknown_types, problem_unknown_types};
 
-use crate::fault::{Source, TypeFault, TypeWhy};
-use crate::names::Names;
-use crate::parts::object_groups;
+use np_names::{Names, Source, TypeFault, TypeWhy, object_groups};
 use np_problem::Problem;
 use np_syntax::{Declared, Domain, DomainSection, Group, Word};
 use sqlite_items::Items;

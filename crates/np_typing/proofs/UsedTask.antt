@@ -5,17 +5,17 @@ use Rattle.np_model.specs.declared.task.Action.{Action}
 use Rattle.np_model.specs.declared.task.TaskParts.{TaskParts}
 use Rattle.np_syntax.specs.declared.domain.Domain.{Domain}
 use Rattle.np_problem.specs.declared.problem.Problem.{Problem}
-use Rattle.np_declared.specs.declared.fault.Source.{Source}
-use Rattle.np_declared.specs.declared.fault.Source.TheVariants.{Domain as InDomain, Problem as InProblem}
-use Rattle.np_declared.specs.declared.fault.TypeFault.{TypeFault}
+use Rattle.np_names.specs.declared.fault.Source.{Source}
+use Rattle.np_names.specs.declared.fault.Source.TheVariants.{Domain as InDomain, Problem as InProblem}
+use Rattle.np_names.specs.declared.fault.TypeFault.{TypeFault}
 use Rattle.np_declared.specs.declared.tables.Tables.{Tables}
-use Rattle.np_declared.specs.Answers.{IsFirst}
-use Rattle.np_declared.proofs.Answering.{first_in, first_after, none_more}
+use Rattle.np_names.specs.Answers.{IsFirst}
+use Rattle.np_names.proofs.Answering.{first_in, first_after, none_more}
 use Rattle.np_typing.specs.declared.uses.start.Start.{Start}
 use Rattle.np_typing.specs.Facts.{atoms_of, values_of}
 use Rattle.np_declared.specs.LookUps.{HasTables}
 use Rattle.np_typing.specs.LookUps.{HasStart, scope_from}
-use Rattle.np_declared.specs.Names.{each_after}
+use Rattle.np_names.specs.Names.{each_after}
 use Rattle.np_typing.specs.Resolved.{conditions_of}
 use Rattle.np_typing.specs.Rules.{section_use_faults, problem_section_use_faults, use_faults, problem_use_faults}
 use Rattle.np_typing.specs.TaskOf.{section_actions, section_facts, section_goals, metric_with, scope_of, task_of}

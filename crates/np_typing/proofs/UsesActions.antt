@@ -10,10 +10,10 @@ use Rattle.np_conditions.specs.declared.effect.Effect.{Effect}
 use Rattle.np_model.specs.declared.task.Action.{Action}
 use Rattle.np_model.specs.declared.task.Cond.{Cond}
 use Rattle.np_model.specs.declared.task.Eff.{Eff}
-use Rattle.np_declared.specs.declared.fault.TypeFault.{TypeFault}
-use Rattle.np_declared.specs.declared.fault.Source.{Source}
+use Rattle.np_names.specs.declared.fault.TypeFault.{TypeFault}
+use Rattle.np_names.specs.declared.fault.Source.{Source}
 use Rattle.np_declared.specs.declared.tables.Tables.{Tables}
-use Rattle.np_declared.specs.Names.{texts, words_of, with_name, firsts, given}
+use Rattle.np_names.specs.Names.{texts, words_of, with_name, firsts, given}
 use Rattle.np_declared.specs.Types.{numbers_in}
 use Rattle.np_typing.specs.Scopes.{Scope, with_parameters}
 use Rattle.np_typing.specs.Resolved.{conditions_of, effects_of}

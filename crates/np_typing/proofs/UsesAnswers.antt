@@ -1,12 +1,12 @@
 -- Answers and first faults in other words.
 use Rattle.std.proofs.Common.{◌≡◌, ℕ, ◌+◌, ◌<◌, List, drop, length, get_or, ◌∙◌}
 use Rattle.std.specs.List.{flat_map}
-use Rattle.np_declared.specs.declared.fault.TypeFault.{TypeFault}
+use Rattle.np_names.specs.declared.fault.TypeFault.{TypeFault}
 use Rattle.std.specs.Prelude.{Result, Ok, Err}
 use Rattle.std.specs.Result.{IsErrAnd}
-use Rattle.np_declared.specs.Answers.{IsFirst, Answers}
-use Rattle.np_declared.proofs.Lists.{flat_map_next}
-use Rattle.np_declared.proofs.Answering.{first_front}
+use Rattle.np_names.specs.Answers.{IsFirst, Answers}
+use Rattle.np_names.proofs.Lists.{flat_map_next}
+use Rattle.np_names.proofs.Answering.{first_front}
 
 -- faults may be written otherwise
 pub first_same : (xs ys : List TypeFault) (fault : TypeFault) → xs ≡ ys → IsFirst ys fault → IsFirst xs fault

@@ -4,11 +4,11 @@ use Rattle.std.proofs.lemmas.List.{length-map, drop_more, map_more}
 use Rattle.np_words.specs.declared.word.Word.{Word}
 use Rattle.np_words.specs.declared.word.Ident.{Ident}
 use Rattle.np_words.specs.declared.word.Ident.TheVariants as ident
-use Rattle.np_declared.specs.declared.fault.TypeFault.{TypeFault}
-use Rattle.np_declared.specs.Answers.{IsFirst}
+use Rattle.np_names.specs.declared.fault.TypeFault.{TypeFault}
+use Rattle.np_names.specs.Answers.{IsFirst}
 use Rattle.np_typing.specs.Scopes.{Scope}
 use Rattle.np_typing.specs.Uses.{argument_faults, arguments_faults}
-use Rattle.np_declared.proofs.Answering.{first_front}
+use Rattle.np_names.proofs.Answering.{first_front}
 use Rattle.np_typing.proofs.UsesAnswers.{first_same}
 
 -- the next argument

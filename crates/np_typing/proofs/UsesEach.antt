@@ -1,11 +1,11 @@
 -- Lists whose items have faults that depend on the items before them: no fault so far, and what holds so far.
 use Rattle.std.proofs.Common.{◌≡◌, ℕ, ◌+◌, ◌<◌, ◌≤◌, List, [], ◌∷◌, ◌++◌, take, drop, length, get_or, sym, ap, subst, ◌∙◌}
 use Rattle.std.proofs.lemmas.List.{append-nil, append_assoc, take_more, take_all, at_drop_all}
-use Rattle.np_declared.specs.declared.fault.TypeFault.{TypeFault}
-use Rattle.np_declared.specs.Answers.{IsFirst}
-use Rattle.np_declared.specs.Names.{each_after}
-use Rattle.np_declared.proofs.Answering.{first_front}
-use Rattle.np_declared.proofs.Lists.{next_item}
+use Rattle.np_names.specs.declared.fault.TypeFault.{TypeFault}
+use Rattle.np_names.specs.Answers.{IsFirst}
+use Rattle.np_names.specs.Names.{each_after}
+use Rattle.np_names.proofs.Answering.{first_front}
+use Rattle.np_names.proofs.Lists.{next_item}
 use Rattle.np_typing.proofs.UsesAnswers.{first_same}
 
 module _ {A S : Type 0} (f : List A → A → List TypeFault) (H : List A → S → Type 0) where

@@ -17,7 +17,7 @@ use Rattle.np_conditions.specs.declared.effect.Effect.{Effect}
 use Rattle.np_conditions.specs.declared.effect.Effect.TheFolds.{fold-roll-Effect}
 use Rattle.np_conditions.specs.declared.effect.Effect.TheOpen.{Effect-F}
 use Rattle.np_conditions.specs.declared.effect.Effect.TheVariants as effect
-use Rattle.np_declared.specs.declared.fault.TypeFault.{TypeFault}
+use Rattle.np_names.specs.declared.fault.TypeFault.{TypeFault}
 use Rattle.np_typing.specs.Scopes.{Scope}
 use Rattle.np_typing.specs.Uses.{expr_faults_from, expr_faults, condition_faults_from, condition_faults, effect_faults_from, effect_faults}
 use Rattle.np_typing.specs.Resolved.{sum_from, sum_of, conditions_from, conditions_of, effects_from, effects_of}

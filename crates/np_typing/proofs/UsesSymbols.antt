@@ -2,7 +2,7 @@
 use Rattle.std.proofs.Common.{◌≡◌, ℕ, suc, Bool, true, false, ◌||◌, List, [], ◌∷◌, bytes_eq, if◌then◌else◌, None, Some, refl, ap, ◌∙◌}
 use Rattle.std.specs.List.{slice_get}
 use Rattle.np_model.specs.declared.task.Signature.{Signature}
-use Rattle.np_declared.specs.Names.{is_among, number_of}
+use Rattle.np_names.specs.Names.{is_among, number_of}
 use Rattle.np_declared.specs.Symbols.{symbol_names}
 
 -- a name that no symbol has numbers none

@@ -16,17 +16,17 @@ use Rattle.np_words.specs.declared.word.Decimal.{Decimal}
 use Rattle.np_words.specs.declared.word.Ident.TheVariants as ident
 use Rattle.np_problem.specs.declared.problem.Fact.{Fact}
 use Rattle.np_problem.specs.declared.problem.Fact.TheVariants as fact
-use Rattle.np_declared.specs.declared.fault.TypeFault.{TypeFault}
-use Rattle.np_declared.specs.declared.fault.TypeFault.TheVariants.{At}
-use Rattle.np_declared.specs.declared.fault.TypeWhy.TheVariants.{ValueTwice}
+use Rattle.np_names.specs.declared.fault.TypeFault.{TypeFault}
+use Rattle.np_names.specs.declared.fault.TypeFault.TheVariants.{At}
+use Rattle.np_names.specs.declared.fault.TypeWhy.TheVariants.{ValueTwice}
 use Rattle.np_typing.specs.declared.uses.facts.Facts.{Facts}
-use Rattle.np_declared.specs.Answers.{IsFirst}
+use Rattle.np_names.specs.Answers.{IsFirst}
 use Rattle.np_words.specs.Numbers.{fraction_of}
 use Rattle.np_typing.specs.Scopes.{Scope}
 use Rattle.np_typing.specs.Uses.{fault_at, function_faults}
 use Rattle.np_typing.specs.Facts.{atom_of, term_of, fact_atoms, fact_values, with_atom, atoms_of, values_of, fact_faults}
 use Rattle.np_typing.specs.LookUps.{HasFacts}
-use Rattle.np_declared.proofs.Answering.{first_here}
+use Rattle.np_names.proofs.Answering.{first_here}
 use Rattle.np_typing.proofs.UsesAnswers.{first_same}
 
 -- ---- a value that is put

@@ -10,9 +10,9 @@ use Rattle.np_words.specs.declared.word.Word.{Word}
 use Rattle.np_words.specs.declared.word.Ident.TheVariants as ident
 use Rattle.np_problem.specs.declared.problem.Fact.{Fact}
 use Rattle.np_problem.specs.declared.problem.Fact.TheVariants as fact
-use Rattle.np_declared.specs.declared.fault.TypeFault.{TypeFault}
-use Rattle.np_declared.specs.declared.fault.TypeWhy.TheVariants.{ValueTwice}
-use Rattle.np_declared.specs.Names.{number_of}
+use Rattle.np_names.specs.declared.fault.TypeFault.{TypeFault}
+use Rattle.np_names.specs.declared.fault.TypeWhy.TheVariants.{ValueTwice}
+use Rattle.np_names.specs.Names.{number_of}
 use Rattle.np_words.specs.Numbers.{fraction_of}
 use Rattle.np_typing.specs.Scopes.{Scope}
 use Rattle.np_declared.specs.Symbols.{object_names}

@@ -3,7 +3,7 @@ use Rattle.std.specs.Prelude.{◌≡◌, List, [], fold, None}
 use Rattle.std.specs.List.{flat_map}
 use Rattle.np_problem.specs.declared.problem.Fact.{Fact}
 use Rattle.np_problem.specs.declared.problem.ProblemSection.{ProblemSection}
-use Rattle.np_declared.specs.declared.fault.Source.{Source}
+use Rattle.np_names.specs.declared.fault.Source.{Source}
 use Rattle.np_declared.specs.declared.tables.Tables.{Tables}
 use Rattle.np_typing.specs.declared.uses.facts.Facts.{Facts}
 use Rattle.np_typing.specs.declared.uses.start.Start.{Start}

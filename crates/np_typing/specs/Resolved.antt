@@ -29,7 +29,7 @@ use Rattle.np_conditions.specs.declared.condition.Condition.TheOpen.{Condition-F
 use Rattle.np_conditions.specs.declared.effect.Effect.{Effect}
 use Rattle.np_conditions.specs.declared.effect.Effect.TheFolds.{fold-Effect}
 use Rattle.np_conditions.specs.declared.effect.Effect.TheOpen.{Effect-F}
-use Rattle.np_declared.specs.Names.{number_of}
+use Rattle.np_names.specs.Names.{number_of}
 use Rattle.np_words.specs.Numbers.{fraction_of}
 use Rattle.np_typing.specs.Scopes.{Scope, ref_of}
 use Rattle.np_declared.specs.Symbols.{symbol_names}

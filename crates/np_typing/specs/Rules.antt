@@ -10,10 +10,11 @@ use Rattle.np_syntax.specs.declared.domain.DomainSection.TheVariants as d
 use Rattle.np_problem.specs.declared.problem.Problem.{Problem}
 use Rattle.np_problem.specs.declared.problem.ProblemSection.{ProblemSection}
 use Rattle.np_problem.specs.declared.problem.ProblemSection.TheVariants as p
-use Rattle.np_declared.specs.declared.fault.TypeFault.{TypeFault}
-use Rattle.np_declared.specs.declared.fault.Source.TheVariants.{Domain as InDomain, Problem as InProblem}
-use Rattle.np_declared.specs.Names.{each_after, given}
-use Rattle.np_declared.specs.Rules.{section_faults, declaration_faults}
+use Rattle.np_names.specs.declared.fault.TypeFault.{TypeFault}
+use Rattle.np_names.specs.declared.fault.Source.TheVariants.{Domain as InDomain, Problem as InProblem}
+use Rattle.np_names.specs.Names.{each_after, given}
+use Rattle.np_names.specs.Sections.{section_faults}
+use Rattle.np_declared.specs.Rules.{declaration_faults}
 use Rattle.np_typing.specs.Scopes.{Scope, with_parameters}
 use Rattle.np_typing.specs.Uses.{expr_faults, condition_faults, effect_faults}
 use Rattle.np_typing.specs.Facts.{fact_faults}

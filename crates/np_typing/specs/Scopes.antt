@@ -9,8 +9,8 @@ use Rattle.np_model.specs.Types.{type_of}
 use Rattle.np_words.specs.declared.word.Group.{Group}
 use Rattle.np_words.specs.declared.word.Ident.{Ident}
 use Rattle.np_words.specs.declared.word.Ident.TheVariants as ident
-use Rattle.np_declared.specs.declared.fault.Source.{Source}
-use Rattle.np_declared.specs.Names.{texts, firsts, is_among, number_of, words_of}
+use Rattle.np_names.specs.declared.fault.Source.{Source}
+use Rattle.np_names.specs.Names.{texts, firsts, is_among, number_of, words_of}
 use Rattle.np_declared.specs.Symbols.{type_names_of, object_names}
 use Rattle.np_declared.specs.Types.{numbers_in}
 

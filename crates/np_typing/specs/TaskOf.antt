@@ -15,11 +15,11 @@ use Rattle.np_problem.specs.declared.problem.Fact.{Fact}
 use Rattle.np_problem.specs.declared.problem.Problem.{Problem}
 use Rattle.np_problem.specs.declared.problem.ProblemSection.{ProblemSection}
 use Rattle.np_problem.specs.declared.problem.ProblemSection.TheVariants as p
-use Rattle.np_declared.specs.declared.fault.Source.{Source}
-use Rattle.np_declared.specs.declared.fault.Source.TheVariants.{Domain as InDomain, Problem as InProblem}
-use Rattle.np_declared.specs.Names.{given}
+use Rattle.np_names.specs.declared.fault.Source.{Source}
+use Rattle.np_names.specs.declared.fault.Source.TheVariants.{Domain as InDomain, Problem as InProblem}
+use Rattle.np_names.specs.Names.{given}
 use Rattle.np_declared.specs.Types.{types_of}
-use Rattle.np_declared.specs.Declarations.{all_types}
+use Rattle.np_names.specs.Declarations.{all_types}
 use Rattle.np_typing.specs.Scopes.{Scope, with_parameters}
 use Rattle.np_declared.specs.Symbols.{if_given, objects_of, predicates_of, functions_of}
 use Rattle.np_typing.specs.Resolved.{sum_of, conditions_of, effects_of}

@@ -1,15 +1,16 @@
 -- Typing: which pairs of a domain and a problem are well-formed, and what the first fault of another pair is.
 --
 -- Which definition says what. Types, typed lists and static symbols are PDDL's (Fox and Long 2003); the order of faults, what is taken leniently, and that amounts
--- read static functions alone are this project's own. Symbols, Sections, Declarations and Types are modules of np_declared, Numbers is one of np_words:
+-- read static functions alone are this project's own. Sections and Declarations are modules of np_names, Types, TypeRules and Symbols of np_declared,
+-- Numbers of np_words:
 --   rules one after the other, the domain before the problem, in the order of the text     Rules.all_faults
 --   a section other than `:action` comes again; its second keyword                         Sections.sections_twice, problem_sections_twice
 --   a problem without `:domain` or `:goal`; its first token                                Sections.sections_missing
 --   the name in `:domain` is another                                                       Sections.other_domains
 --   a name comes again among those of its kind; the second one                             Declarations.names_twice, problem_names_twice
 --   `object` without a supertype lists nothing; a supertype is no listing                  Declarations.listed_under
---   a type under itself, `object` under a type; the first listed                           Declarations.is_cyclic, type_cycles
---   types outside `:types` are declared                                                    Declarations.unknown_types, problem_unknown_types
+--   a type under itself, `object` under a type; the first listed                           TypeRules.is_cyclic, type_cycles
+--   types outside `:types` are declared                                                    TypeRules.unknown_types, problem_unknown_types
 --   a supertype that isn't listed is a type under `object`; types by first occurrence      Types.type_names, supertype, types_of
 --   a name without a type has type `object`                                                Types.type_number
 --   constants, then objects                                                                Symbols.objects_of
@@ -36,8 +37,8 @@ use Rattle.np_words.specs.Wide.{IsShortLexeme}
 use Rattle.np_problem.specs.declared.problem.Problem.{Problem}
 use Rattle.np_problem.specs.ProblemText.{IsProblem}
 use Rattle.np_problem.specs.Problems.{problem_text}
-use Rattle.np_declared.specs.declared.fault.TypeFault.{TypeFault}
-use Rattle.np_declared.specs.Faults.{first_of}
+use Rattle.np_names.specs.declared.fault.TypeFault.{TypeFault}
+use Rattle.np_names.specs.Faults.{first_of}
 use Rattle.np_typing.specs.Rules.{all_faults}
 
 -- the two have texts, in which no number has more than 38 digits, and which together have fewer than 2^31 tokens

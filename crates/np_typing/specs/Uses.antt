@@ -18,11 +18,11 @@ use Rattle.np_conditions.specs.declared.condition.Condition.TheOpen.{Condition-F
 use Rattle.np_conditions.specs.declared.effect.Effect.{Effect}
 use Rattle.np_conditions.specs.declared.effect.Effect.TheFolds.{fold-Effect}
 use Rattle.np_conditions.specs.declared.effect.Effect.TheOpen.{Effect-F}
-use Rattle.np_declared.specs.declared.fault.TypeFault.{TypeFault}
-use Rattle.np_declared.specs.declared.fault.TypeFault.TheVariants.{At}
-use Rattle.np_declared.specs.declared.fault.TypeWhy.{TypeWhy}
-use Rattle.np_declared.specs.declared.fault.TypeWhy.TheVariants.{UnknownPredicate, UnknownFunction, UnknownName, Unbound, WrongArity, WrongType, AmountNotStatic}
-use Rattle.np_declared.specs.Names.{is_among, number_of}
+use Rattle.np_names.specs.declared.fault.TypeFault.{TypeFault}
+use Rattle.np_names.specs.declared.fault.TypeFault.TheVariants.{At}
+use Rattle.np_names.specs.declared.fault.TypeWhy.{TypeWhy}
+use Rattle.np_names.specs.declared.fault.TypeWhy.TheVariants.{UnknownPredicate, UnknownFunction, UnknownName, Unbound, WrongArity, WrongType, AmountNotStatic}
+use Rattle.np_names.specs.Names.{is_among, number_of}
 use Rattle.np_typing.specs.Scopes.{Scope, is_known, ref_of, type_of_ref}
 use Rattle.np_declared.specs.Symbols.{object_names, symbol_names}
 

@@ -1,11 +1,11 @@
 //! What names stand for at a place of a text.
 ghost use Rattle.std.specs.Prelude.{◌≡◌, Some, None, [], if◌then◌else◌, slice_get, IfSome, ◌∷◌};
 ghost use Rattle.np_model.specs.Types.{fits};
-ghost use Rattle.np_declared.specs.Names.{is_among, number_of};
+ghost use Rattle.np_names.specs.Names.{is_among, number_of};
 ghost use Rattle.np_declared.specs.Symbols.{object_names, symbol_names};
 ghost use Rattle.np_typing.specs.Scopes.{is_known, ref_of, type_of_ref};
 ghost use Rattle.np_typing.specs.Uses.{unknown, wrong_type, object_faults};
-ghost use Rattle.np_declared.specs.Answers.{Answers};
+ghost use Rattle.np_names.specs.Answers.{Answers};
 ghost use Rattle.np_declared.specs.LookUps.{TablesAgree};
 ghost use Rattle.np_typing.specs.LookUps.{scope_from};
 ghost use Rattle.np_typing.specs.Resolved.{predicate_number, function_number};

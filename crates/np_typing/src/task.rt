@@ -1,6 +1,6 @@
 //! A domain and a problem as a task.
 ghost use Rattle.std.specs.Prelude.{◌≡◌, ◌++◌, IfOk};
-ghost use Rattle.np_declared.specs.Answers.{Answers};
+ghost use Rattle.np_names.specs.Answers.{Answers};
 ghost use Rattle.np_declared.specs.Rules.{declaration_faults};
 ghost use Rattle.np_typing.specs.Rules.{use_faults, problem_use_faults, all_faults};
 ghost use Rattle.np_declared.specs.LookUps.{HasTables};
@@ -70,7 +70,7 @@ fn used(
 }
 
 /// The parts of the task of a domain and a problem, where no rule of declarations and uses is broken.
-#[tactic(auto, using(np_declared::proofs::Answering::first_front, np_declared::proofs::Answering::first_after, np_declared::proofs::Answering::none_more))]
+#[tactic(auto, using(np_names::proofs::Answering::first_front, np_names::proofs::Answering::first_after, np_names::proofs::Answering::none_more))]
 fn resolved(alloc: Global, domain: &Domain, problem: &Problem) -> Result<TaskParts, TypeFault>
     ensures { Answers (declaration_faults domain.now problem.now ++ (use_faults domain.now problem.now ++ problem_use_faults domain.now problem.now))
         (λ parts. parts ≡ task_of domain.now problem.now) result }
@@ -85,7 +85,7 @@ fn resolved(alloc: Global, domain: &Domain, problem: &Problem) -> Result<TaskPar
 /// Else the first fault: sections that come again or are missing, another domain's name, names that come again, types in a
 /// circle and unknown types, in this order and each over the domain and then the problem in the order of the text, and after
 /// these what the two use, in the order of the text, a symbol before its arguments. `Memory` where memory ran out.
-#[tactic(auto, using(np_declared::proofs::Answering::first_front, np_declared::proofs::Answering::first_after, np_declared::proofs::Answering::none_more))]
+#[tactic(auto, using(np_names::proofs::Answering::first_front, np_names::proofs::Answering::first_after, np_names::proofs::Answering::none_more))]
 pub fn resolve(alloc: Global, domain: &Domain, problem: &Problem) -> Result<Task, TypeFault>
     requires { IsSpelledPair domain.now problem.now }
     ensures { Answers (all_faults domain.now problem.now) (λ task. task ≡ task_of domain.now problem.now) result }

@@ -23,13 +23,13 @@ use Rattle.np_syntax.specs.declared.domain.Domain.{Domain}
 use Rattle.np_syntax.specs.declared.domain.DomainSection.{DomainSection}
 use Rattle.np_syntax.specs.declared.domain.DomainSection.TheVariants as d
 use Rattle.np_problem.specs.declared.problem.Problem.{Problem}
-use Rattle.np_declared.specs.declared.fault.TypeFault.{TypeFault}
-use Rattle.np_declared.specs.declared.fault.TypeWhy.{TypeWhy}
-use Rattle.np_declared.specs.declared.fault.TypeWhy.TheVariants.{UnknownPredicate, UnknownFunction}
-use Rattle.np_declared.specs.declared.fault.Source.TheVariants.{Domain as InDomain}
-use Rattle.np_declared.specs.Names.{texts, is_among, number_of, given}
+use Rattle.np_names.specs.declared.fault.TypeFault.{TypeFault}
+use Rattle.np_names.specs.declared.fault.TypeWhy.{TypeWhy}
+use Rattle.np_names.specs.declared.fault.TypeWhy.TheVariants.{UnknownPredicate, UnknownFunction}
+use Rattle.np_names.specs.declared.fault.Source.TheVariants.{Domain as InDomain}
+use Rattle.np_names.specs.Names.{texts, is_among, number_of, given}
 use Rattle.np_declared.specs.Types.{type_names}
-use Rattle.np_declared.specs.Declarations.{all_types, all_predicates, all_functions}
+use Rattle.np_names.specs.Declarations.{all_types, all_predicates, all_functions}
 use Rattle.np_typing.specs.Scopes.{Scope, with_parameters}
 use Rattle.np_declared.specs.Symbols.{symbol_names, touched_from, touched, changed_from, changed, if_given, section_touched, section_changed, all_touched, all_changed, signature}
 use Rattle.np_typing.specs.Uses.{found_faults, predicate_faults, function_faults, condition_faults, effect_faults, effect_faults_from}

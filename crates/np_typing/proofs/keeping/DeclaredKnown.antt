@@ -14,9 +14,10 @@ use Rattle.np_syntax.specs.declared.domain.Domain.{Domain}
 use Rattle.np_syntax.specs.declared.domain.DomainSection.{DomainSection}
 use Rattle.np_syntax.specs.declared.domain.DomainSection.TheVariants as d
 use Rattle.np_problem.specs.declared.problem.Problem.{Problem}
-use Rattle.np_declared.specs.Names.{is_among, typed, typed_words, given_word}
+use Rattle.np_names.specs.Names.{is_among, typed, typed_words, given_word}
 use Rattle.np_declared.specs.Types.{type_names, type_number, numbers_in, object_in, objects_in}
-use Rattle.np_declared.specs.Declarations.{constant_groups, declared_predicates, declared_functions, all_types, all_constants, all_predicates, all_functions, all_objects, unknown_in, section_unknown}
+use Rattle.np_names.specs.Declarations.{constant_groups, declared_predicates, declared_functions, all_types, all_constants, all_predicates, all_functions, all_objects}
+use Rattle.np_declared.specs.TypeRules.{unknown_in, section_unknown}
 use Rattle.np_typing.specs.TaskOf.{task_of}
 use Rattle.np_typing.proofs.keeping.DeclaredParts.{first_empty, second_empty, map_empty, BreaksNoRule}
 use Rattle.np_typing.proofs.keeping.DeclaredLists.{filter_none}

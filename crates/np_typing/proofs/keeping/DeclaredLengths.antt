@@ -33,7 +33,7 @@ use Rattle.np_problem.specs.declared.problem.ProblemSection.TheVariants as p
 use Rattle.np_problem.specs.FactText as text
 use Rattle.np_problem.specs.ProblemText as whole
 use Rattle.np_problem.specs.Problems.{problem_text}
-use Rattle.np_declared.specs.Names.{words_of, typed_words, given_word, given}
+use Rattle.np_names.specs.Names.{words_of, typed_words, given_word, given}
 use Rattle.np_declared.specs.Types.{type_words, type_number, numbers_in}
 use Rattle.np_typing.specs.Scopes.{Scope, with_parameters}
 use Rattle.np_declared.specs.Symbols.{type_names_of, if_given}

@@ -7,7 +7,7 @@ use Rattle.std.proofs.lemmas.Grind.{flat_map-append}
 use Rattle.std.proofs.lemmas.List.Elements.{All-nil, All-cons, All-head, All-tail, All-append}
 use Rattle.std.proofs.lemmas.List.Folds.{list_any-append}
 use Rattle.np_words.specs.declared.word.Word.{Word}
-use Rattle.np_declared.specs.Names.{texts, is_among}
+use Rattle.np_names.specs.Names.{texts, is_among}
 
 -- what holds of everything holds of all items
 pub every : {A : Type 0} (P : A → Type 0) → ((x : A) → P x) → (xs : List A) → All P xs

@@ -21,10 +21,10 @@ use Rattle.np_syntax.specs.DomainText.{IsDeclared}
 use Rattle.np_words.specs.Written.{IsName, IsGroup}
 use Rattle.np_words.specs.declared.word.ListKind.TheVariants.{Names}
 use Rattle.np_problem.specs.declared.problem.Problem.{Problem}
-use Rattle.np_declared.specs.declared.fault.Source.TheVariants.{Domain as InDomain}
-use Rattle.np_declared.specs.Names.{texts, is_among, words_of, typed, typed_words, object}
+use Rattle.np_names.specs.declared.fault.Source.TheVariants.{Domain as InDomain}
+use Rattle.np_names.specs.Names.{texts, is_among, words_of, typed, typed_words, object}
 use Rattle.np_declared.specs.Types.{type_words, type_names, object_in, objects_in}
-use Rattle.np_declared.specs.Declarations.{action_names, all_types, all_constants, all_predicates, all_functions, all_objects, names_of}
+use Rattle.np_names.specs.Declarations.{action_names, all_types, all_constants, all_predicates, all_functions, all_objects, names_of}
 use Rattle.np_typing.specs.Scopes.{Scope}
 use Rattle.np_declared.specs.Symbols.{signature, all_touched, all_changed}
 use Rattle.np_typing.specs.TaskOf.{scope_of, section_actions, task_of}

@@ -13,8 +13,8 @@ use Rattle.np_syntax.specs.declared.domain.Domain.{Domain}
 use Rattle.np_syntax.specs.declared.domain.DomainSection.{DomainSection}
 use Rattle.np_syntax.specs.declared.domain.DomainSection.TheVariants as d
 use Rattle.np_problem.specs.declared.problem.Problem.{Problem}
-use Rattle.np_declared.specs.Names.{each_after, texts, is_among, repeats, words_of}
-use Rattle.np_declared.specs.Declarations.{constant_groups, declared_predicates, declared_functions, action_names, all_constants, all_predicates, all_functions, all_objects, names_of, declared_repeats, section_repeats}
+use Rattle.np_names.specs.Names.{each_after, texts, is_among, repeats, words_of}
+use Rattle.np_names.specs.Declarations.{constant_groups, declared_predicates, declared_functions, action_names, all_constants, all_predicates, all_functions, all_objects, names_of, declared_repeats, section_repeats}
 use Rattle.np_typing.proofs.keeping.DeclaredParts.{first_empty, second_empty, map_empty, BreaksNoRule}
 use Rattle.np_typing.proofs.keeping.DeclaredLists.{flat_map_more, texts_append}
 

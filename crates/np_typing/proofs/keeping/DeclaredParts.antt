@@ -3,9 +3,11 @@ use Rattle.std.proofs.Common.{◌≡◌, refl, List, [], ◌∷◌, ◌++◌, ma
 use Rattle.std.specs.List.{flat_map}
 use Rattle.np_syntax.specs.declared.domain.Domain.{Domain}
 use Rattle.np_problem.specs.declared.problem.Problem.{Problem}
-use Rattle.np_declared.specs.Sections.{sections_twice, problem_sections_twice, sections_missing, other_domains}
-use Rattle.np_declared.specs.Declarations.{names_twice, problem_names_twice, type_cycles, unknown_types, problem_unknown_types}
-use Rattle.np_declared.specs.Rules.{section_faults, declaration_faults}
+use Rattle.np_names.specs.Sections.{sections_twice, problem_sections_twice, sections_missing, other_domains}
+use Rattle.np_names.specs.Declarations.{names_twice, problem_names_twice}
+use Rattle.np_declared.specs.TypeRules.{type_cycles, unknown_types, problem_unknown_types}
+use Rattle.np_names.specs.Sections.{section_faults}
+use Rattle.np_declared.specs.Rules.{declaration_faults}
 use Rattle.np_typing.specs.Rules.{use_faults, problem_use_faults, all_faults}
 
 -- ---- empty lists

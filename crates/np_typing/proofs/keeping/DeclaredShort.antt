@@ -17,10 +17,10 @@ use Rattle.np_problem.specs.declared.problem.Fact.TheVariants as fact
 use Rattle.np_problem.specs.declared.problem.Problem.{Problem}
 use Rattle.np_problem.specs.declared.problem.ProblemSection.{ProblemSection}
 use Rattle.np_problem.specs.declared.problem.ProblemSection.TheVariants as p
-use Rattle.np_declared.specs.declared.fault.Source.TheVariants.{Domain as InDomain, Problem as InProblem}
-use Rattle.np_declared.specs.Names.{texts, words_of, typed_words, object}
+use Rattle.np_names.specs.declared.fault.Source.TheVariants.{Domain as InDomain, Problem as InProblem}
+use Rattle.np_names.specs.Names.{texts, words_of, typed_words, object}
 use Rattle.np_declared.specs.Types.{type_words, type_names, object_in}
-use Rattle.np_declared.specs.Declarations.{type_groups, constant_groups, declared_predicates, declared_functions, object_groups, all_types, all_constants, all_predicates, all_functions, all_objects}
+use Rattle.np_names.specs.Declarations.{type_groups, constant_groups, declared_predicates, declared_functions, object_groups, all_types, all_constants, all_predicates, all_functions, all_objects}
 use Rattle.np_typing.specs.Scopes.{Scope}
 use Rattle.np_typing.specs.Resolved.{conditions_of}
 use Rattle.np_typing.specs.Facts.{fact_atoms, fact_values, with_atom, atoms_of, values_of}

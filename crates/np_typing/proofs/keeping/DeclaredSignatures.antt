@@ -14,10 +14,11 @@ use Rattle.np_syntax.specs.declared.domain.Domain.{Domain}
 use Rattle.np_syntax.specs.declared.domain.DomainSection.{DomainSection}
 use Rattle.np_syntax.specs.declared.domain.DomainSection.TheVariants as d
 use Rattle.np_problem.specs.declared.problem.Problem.{Problem}
-use Rattle.np_declared.specs.declared.fault.Source.TheVariants.{Domain as InDomain}
-use Rattle.np_declared.specs.Names.{texts, given}
+use Rattle.np_names.specs.declared.fault.Source.TheVariants.{Domain as InDomain}
+use Rattle.np_names.specs.Names.{texts, given}
 use Rattle.np_declared.specs.Types.{type_names, numbers_in}
-use Rattle.np_declared.specs.Declarations.{declared_predicates as predicates_in, declared_functions as functions_in, all_types, all_predicates, all_functions, unknown_in, section_unknown}
+use Rattle.np_names.specs.Declarations.{declared_predicates as predicates_in, declared_functions as functions_in, all_types, all_predicates, all_functions}
+use Rattle.np_declared.specs.TypeRules.{unknown_in, section_unknown}
 use Rattle.np_declared.specs.Symbols.{signature, all_touched, all_changed}
 use Rattle.np_typing.specs.TaskOf.{action_of, scope_of, task_of}
 use Rattle.np_typing.specs.Typing.{IsSpelledPair}

@@ -16,9 +16,10 @@ use Rattle.np_words.specs.declared.word.Word.{Word}
 use Rattle.np_words.specs.declared.word.Group.{Group}
 use Rattle.np_syntax.specs.declared.domain.Domain.{Domain}
 use Rattle.np_problem.specs.declared.problem.Problem.{Problem}
-use Rattle.np_declared.specs.Names.{texts, is_among, number_of, given_word, typed, typed_words, object, is_object}
+use Rattle.np_names.specs.Names.{texts, is_among, number_of, given_word, typed, typed_words, object, is_object}
 use Rattle.np_declared.specs.Types.{type_words, type_names, supertype_with, supertype, type_named, types_of}
-use Rattle.np_declared.specs.Declarations.{all_types, is_under_itself, is_cyclic, cyclic_words}
+use Rattle.np_names.specs.Declarations.{all_types}
+use Rattle.np_declared.specs.TypeRules.{is_under_itself, is_cyclic, cyclic_words}
 use Rattle.np_typing.specs.TaskOf.{task_of}
 use Rattle.np_typing.proofs.keeping.DeclaredParts.{first_empty, second_empty, map_empty, BreaksNoRule}
 use Rattle.np_typing.proofs.keeping.DeclaredLists.{map_twice, filter_none, among_append}

@@ -17,9 +17,9 @@ use Rattle.np_problem.specs.declared.problem.Problem.{Problem}
 use Rattle.np_problem.specs.declared.problem.ProblemSection.{ProblemSection}
 use Rattle.np_problem.specs.declared.problem.ProblemSection.TheVariants as p
 use Rattle.np_problem.specs.ProblemText.{IsProblem, IsSection}
-use Rattle.np_declared.specs.Names.{given_word, words_of}
+use Rattle.np_names.specs.Names.{given_word, words_of}
 use Rattle.np_declared.specs.Types.{type_words}
-use Rattle.np_declared.specs.Declarations.{type_groups, constant_groups, declared_predicates, declared_functions, action_names, object_groups, all_types, all_constants, all_predicates, all_functions, all_objects}
+use Rattle.np_names.specs.Declarations.{type_groups, constant_groups, declared_predicates, declared_functions, action_names, object_groups, all_types, all_constants, all_predicates, all_functions, all_objects}
 use Rattle.np_typing.proofs.keeping.DeclaredLists.{all_flat_map}
 
 abbrev pub IsDomainSection : DomainSection → Type 0

@@ -17,10 +17,11 @@ use Rattle.np_syntax.specs.Domains.{IsActionCondition, IsActionEffect}
 use Rattle.np_syntax.specs.SectionText.{IfGiven}
 use Rattle.np_syntax.specs.SectionText as text
 use Rattle.np_problem.specs.declared.problem.Problem.{Problem}
-use Rattle.np_declared.specs.declared.fault.Source.TheVariants.{Domain as InDomain}
-use Rattle.np_declared.specs.Names.{each_after, given, texts, is_among, repeats, with_name, firsts, words_of}
+use Rattle.np_names.specs.declared.fault.Source.TheVariants.{Domain as InDomain}
+use Rattle.np_names.specs.Names.{each_after, given, texts, is_among, repeats, with_name, firsts, words_of}
 use Rattle.np_declared.specs.Types.{type_names}
-use Rattle.np_declared.specs.Declarations.{action_names, section_repeats, all_types, section_unknown}
+use Rattle.np_names.specs.Declarations.{action_names, section_repeats, all_types}
+use Rattle.np_declared.specs.TypeRules.{section_unknown}
 use Rattle.np_typing.specs.Scopes.{Scope, with_parameters}
 use Rattle.np_declared.specs.Symbols.{type_names_of, if_given}
 use Rattle.np_typing.specs.Uses.{condition_faults, effect_faults}

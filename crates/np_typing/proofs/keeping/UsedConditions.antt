@@ -20,7 +20,7 @@ use Rattle.np_conditions.specs.declared.condition.Condition.TheOpen.{Condition-F
 use Rattle.np_conditions.specs.declared.condition.Condition.TheViews.{roll-out-Condition}
 use Rattle.np_conditions.specs.ConditionText.{IsSide, InBracket, IsConditionOf, IsCondition}
 use Rattle.np_words.specs.ExprText.{IsExpr}
-use Rattle.np_declared.specs.declared.fault.TypeFault.{TypeFault}
+use Rattle.np_names.specs.declared.fault.TypeFault.{TypeFault}
 use Rattle.np_typing.specs.Scopes.{Scope}
 use Rattle.np_typing.specs.Uses.{bare_word_of, expr_faults, says_object, is_of_objects, word_side_faults, object_side_faults, object_faults, number_side_faults, equality_faults, condition_faults_from, condition_faults}
 use Rattle.np_typing.specs.Resolved.{sum_of, word_ref, side_ref, side_sum, equality_of, conditions_from, conditions_of}

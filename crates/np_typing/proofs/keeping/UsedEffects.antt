@@ -16,7 +16,7 @@ use Rattle.np_conditions.specs.declared.effect.Effect.TheOpen.{Effect-F}
 use Rattle.np_conditions.specs.declared.effect.Effect.TheViews.{roll-out-Effect}
 use Rattle.np_conditions.specs.EffectText.{IsEffectOf, IsEffect}
 use Rattle.np_words.specs.ExprText.{IsExpr}
-use Rattle.np_declared.specs.declared.fault.TypeFault.{TypeFault}
+use Rattle.np_names.specs.declared.fault.TypeFault.{TypeFault}
 use Rattle.np_typing.specs.Scopes.{Scope}
 use Rattle.np_typing.specs.Uses.{expr_faults, function_faults, change_faults, effect_faults_from, effect_faults}
 use Rattle.np_typing.specs.Resolved.{function_number, refs_of, sum_of, effects_from, effects_of}

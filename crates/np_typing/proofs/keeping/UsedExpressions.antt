@@ -10,7 +10,7 @@ use Rattle.np_words.specs.declared.expr.Expr.TheFolds.{fold-Expr, fold-roll-Expr
 use Rattle.np_words.specs.declared.expr.Expr.TheOpen.{Expr-F}
 use Rattle.np_words.specs.declared.expr.Expr.TheViews.{roll-out-Expr}
 use Rattle.np_words.specs.ExprText.{IsPlain, IsExprOf, IsExpr}
-use Rattle.np_declared.specs.declared.fault.TypeFault.{TypeFault}
+use Rattle.np_names.specs.declared.fault.TypeFault.{TypeFault}
 use Rattle.np_words.specs.Numbers.{fraction_of}
 use Rattle.np_typing.specs.Scopes.{Scope}
 use Rattle.np_typing.specs.Uses.{expr_faults_from, expr_faults}

@@ -17,7 +17,7 @@ use Rattle.np_words.specs.declared.word.Word.{Word}
 use Rattle.np_words.specs.declared.word.Ident.TheVariants as ident
 use Rattle.np_problem.specs.declared.problem.Fact.{Fact}
 use Rattle.np_problem.specs.declared.problem.Fact.TheVariants as fact
-use Rattle.np_declared.specs.Names.{each_after, number_of}
+use Rattle.np_names.specs.Names.{each_after, number_of}
 use Rattle.np_typing.specs.Scopes.{Scope}
 use Rattle.np_declared.specs.Symbols.{object_names}
 use Rattle.np_typing.specs.Uses.{function_faults, predicate_faults}

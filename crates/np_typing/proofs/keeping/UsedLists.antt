@@ -5,7 +5,7 @@ use Rattle.std.proofs.lemmas.Bool.{and_from, both_ways}
 use Rattle.std.proofs.lemmas.List.Folds.{list_any_at}
 use Rattle.std.proofs.lemmas.List.Quantifiers.{all_pairs_push}
 use Rattle.np_model.specs.Tasks.{AreDistinct}
-use Rattle.np_declared.specs.Names.{each_after}
+use Rattle.np_names.specs.Names.{each_after}
 use Rattle.np_typing.proofs.keeping.DeclaredParts.{first_empty, second_empty}
 
 -- ---- lists without an item

@@ -11,8 +11,8 @@ use Rattle.np_problem.specs.declared.problem.Problem.{Problem}
 use Rattle.np_problem.specs.declared.problem.ProblemSection.{ProblemSection}
 use Rattle.np_problem.specs.declared.problem.ProblemSection.TheVariants as p
 use Rattle.np_problem.specs.ProblemText.{IsSection}
-use Rattle.np_declared.specs.declared.fault.Source.TheVariants.{Problem as InProblem}
-use Rattle.np_declared.specs.Names.{each_after}
+use Rattle.np_names.specs.declared.fault.Source.TheVariants.{Problem as InProblem}
+use Rattle.np_names.specs.Names.{each_after}
 use Rattle.np_typing.specs.Scopes.{Scope}
 use Rattle.np_typing.specs.Facts.{fact_faults}
 use Rattle.np_typing.specs.Resolved.{conditions_of}

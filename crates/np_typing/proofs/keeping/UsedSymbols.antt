@@ -14,8 +14,8 @@ use Rattle.np_model.specs.Types.{type_of, fits, all_fit}
 use Rattle.np_words.specs.declared.word.Word.{Word}
 use Rattle.np_words.specs.declared.word.Ident.{Ident}
 use Rattle.np_words.specs.declared.word.Ident.TheVariants as ident
-use Rattle.np_declared.specs.declared.fault.TypeWhy.{TypeWhy}
-use Rattle.np_declared.specs.Names.{number_of}
+use Rattle.np_names.specs.declared.fault.TypeWhy.{TypeWhy}
+use Rattle.np_names.specs.Names.{number_of}
 use Rattle.np_typing.specs.Scopes.{Scope, is_known, ref_of}
 use Rattle.np_declared.specs.Symbols.{object_names}
 use Rattle.np_typing.specs.Scopes as scopes

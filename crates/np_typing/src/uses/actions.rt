@@ -1,10 +1,10 @@
 //! Actions.
 ghost use Rattle.std.specs.Prelude.{◌≡◌, ◌++◌, ◌∷◌, [], fold};
 ghost use Rattle.std.specs.List.{flat_map};
-ghost use Rattle.np_declared.specs.Answers.{Answers};
+ghost use Rattle.np_names.specs.Answers.{Answers};
 ghost use Rattle.np_declared.specs.LookUps.{TablesAgree};
 ghost use Rattle.np_typing.specs.LookUps.{scope_from};
-ghost use Rattle.np_declared.specs.Names.{with_name, firsts, texts, words_of, given};
+ghost use Rattle.np_names.specs.Names.{with_name, firsts, texts, words_of, given};
 ghost use Rattle.np_typing.specs.Resolved.{conditions_of, effects_of};
 ghost use Rattle.np_typing.specs.Rules.{section_use_faults};
 ghost use Rattle.np_typing.specs.Scopes.{with_parameters};

@@ -1,7 +1,7 @@
 //! Predicates and functions with their arguments.
 ghost use Rattle.std.specs.Prelude.{◌≡◌, ◌==◌, length, map, true, false};
-ghost use Rattle.np_declared.specs.Answers.{Answers};
-ghost use Rattle.np_declared.specs.Names.{number_of};
+ghost use Rattle.np_names.specs.Answers.{Answers};
+ghost use Rattle.np_names.specs.Names.{number_of};
 ghost use Rattle.np_declared.specs.Symbols.{object_names};
 ghost use Rattle.np_typing.specs.Scopes.{ref_of};
 ghost use Rattle.np_typing.specs.Uses.{argument_faults, arguments_faults, declared_faults, predicate_faults, function_faults};

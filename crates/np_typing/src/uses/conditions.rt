@@ -2,7 +2,7 @@
 ghost use Rattle.std.specs.Prelude.{◌≡◌, ◌++◌, ◌∷◌, [], false};
 ghost use Rattle.std.specs.List.{flat_map};
 ghost use Rattle.np_model.specs.Conditions.{turned};
-ghost use Rattle.np_declared.specs.Answers.{Answers};
+ghost use Rattle.np_names.specs.Answers.{Answers};
 ghost use Rattle.np_typing.specs.Scopes.{ref_of};
 ghost use Rattle.np_typing.specs.Uses.{predicate_faults, expr_faults, object_faults, condition_faults};
 ghost use Rattle.np_typing.specs.Resolved.{op_of, sum_of, predicate_number, refs_of, conditions_of};

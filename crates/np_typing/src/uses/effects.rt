@@ -1,7 +1,7 @@
 //! Effects.
 ghost use Rattle.std.specs.Prelude.{◌≡◌, ◌++◌, ◌∷◌, []};
 ghost use Rattle.std.specs.List.{flat_map};
-ghost use Rattle.np_declared.specs.Answers.{Answers};
+ghost use Rattle.np_names.specs.Answers.{Answers};
 ghost use Rattle.np_typing.specs.Uses.{predicate_faults, change_faults, effect_faults};
 ghost use Rattle.np_typing.specs.Resolved.{predicate_number, function_number, refs_of, sum_of, effects_of};
 

@@ -1,6 +1,6 @@
 //! Equalities, of objects or of numbers.
 ghost use Rattle.std.specs.Prelude.{◌≡◌, ◌++◌, true};
-ghost use Rattle.np_declared.specs.Answers.{Answers};
+ghost use Rattle.np_names.specs.Answers.{Answers};
 ghost use Rattle.np_typing.specs.Scopes.{ref_of};
 ghost use Rattle.np_typing.specs.Uses.{object_faults, says_object, is_of_objects, object_side_faults, number_side_faults, equality_faults};
 ghost use Rattle.np_typing.specs.Resolved.{side_ref, side_sum, equality_of};

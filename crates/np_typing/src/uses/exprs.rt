@@ -1,7 +1,7 @@
 //! Expressions.
 ghost use Rattle.std.specs.Prelude.{◌≡◌, map};
 ghost use Rattle.std.specs.List.{flat_map};
-ghost use Rattle.np_declared.specs.Answers.{Answers};
+ghost use Rattle.np_names.specs.Answers.{Answers};
 ghost use Rattle.np_typing.specs.Uses.{expr_faults, function_faults};
 ghost use Rattle.np_typing.specs.Resolved.{sum_of, function_number, refs_of};
 

@@ -3,10 +3,10 @@ ghost use Rattle.std.specs.Prelude.{◌≡◌, ◌++◌, ◌∷◌, [], List, ma
 ghost use Rattle.std.specs.List.{list_any};
 ghost use Rattle.np_model.specs.Ground.{same_term};
 ghost use Rattle.np_problem.specs.declared.problem.Fact.{Fact};
-ghost use Rattle.np_declared.specs.Answers.{Answers};
+ghost use Rattle.np_names.specs.Answers.{Answers};
 ghost use Rattle.np_typing.specs.Facts.{with_atom, atom_of, term_of, fact_faults};
 ghost use Rattle.np_typing.specs.LookUps.{HasFacts};
-ghost use Rattle.np_declared.specs.Names.{each_after};
+ghost use Rattle.np_names.specs.Names.{each_after};
 ghost use Rattle.np_words.specs.Numbers.{fraction_of};
 ghost use Rattle.np_typing.specs.Uses.{fault_at, predicate_faults, function_faults};
 

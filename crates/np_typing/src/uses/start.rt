@@ -2,13 +2,13 @@
 ghost use Rattle.std.specs.Prelude.{◌≡◌, ◌++◌, ◌∷◌, [], List, IfOk, false};
 ghost use Rattle.np_problem.specs.declared.problem.Fact.{Fact};
 ghost use Rattle.np_problem.specs.declared.problem.ProblemSection.{ProblemSection};
-ghost use Rattle.np_declared.specs.Answers.{Answers};
+ghost use Rattle.np_names.specs.Answers.{Answers};
 ghost use Rattle.np_declared.specs.LookUps.{TablesAgree};
 ghost use Rattle.np_typing.specs.LookUps.{scope_from, HasFacts, HasStart};
 ghost use Rattle.np_typing.specs.Facts.{fact_faults};
 ghost use Rattle.np_typing.specs.Resolved.{sum_of, conditions_of};
 ghost use Rattle.np_typing.specs.Uses.{condition_faults, expr_faults};
-ghost use Rattle.np_declared.specs.Names.{each_after};
+ghost use Rattle.np_names.specs.Names.{each_after};
 ghost use Rattle.np_typing.specs.Rules.{problem_section_use_faults};
 
 use crate::scope::Scope;

@@ -1,8 +1,8 @@
 use Rattle.std.proofs.Common.{[]}
 use Rattle.np_declared.specs.LookUps.{HasTables}
 use Rattle.np_declared.specs.Rules.{declaration_faults}
-use Rattle.np_declared.proofs.Answering.{passed_on}
-use Rattle.np_declared.proofs.DeclarationLaws.{answers_like}
+use Rattle.np_names.proofs.Answering.{passed_on}
+use Rattle.np_names.proofs.DeclarationLaws.{answers_like}
 use Rattle.np_declared.proofs.TaskFaults.{first_of_names, first_of_types, first_of_unknown, no_declaration_fault}
 use Rattle.np_declared.proofs.both.declared.Goals as goal
 

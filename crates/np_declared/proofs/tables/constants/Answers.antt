@@ -1,8 +1,8 @@
 use Rattle.std.proofs.Common.{◌++◌, ◌+◌, drop, ap, ◌∙◌}
 use Rattle.std.specs.List.{flat_map}
-use Rattle.np_declared.specs.Declarations.{constant_groups}
+use Rattle.np_names.specs.Declarations.{constant_groups}
 use Rattle.np_declared.specs.Types.{objects_in}
-use Rattle.np_declared.proofs.Lists.{part_next, put_front}
+use Rattle.np_names.proofs.Lists.{part_next, put_front}
 use Rattle.np_declared.proofs.TableLaws.{objects_more}
 use Rattle.np_declared.proofs.tables.constants.Goals as goal
 

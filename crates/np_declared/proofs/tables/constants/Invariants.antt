@@ -1,6 +1,6 @@
 use Rattle.std.proofs.Common.{◌≡◌, ◌++◌, drop}
 use Rattle.std.specs.List.{flat_map}
-use Rattle.np_declared.specs.Declarations.{all_constants, constant_groups}
+use Rattle.np_names.specs.Declarations.{all_constants, constant_groups}
 use Rattle.np_declared.specs.Types.{objects_in}
 use Rattle.np_declared.proofs.tables.constants.Given as goal
 

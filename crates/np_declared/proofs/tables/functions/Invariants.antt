@@ -1,6 +1,6 @@
 use Rattle.std.proofs.Common.{◌≡◌, ◌++◌, map, drop}
 use Rattle.std.specs.List.{flat_map}
-use Rattle.np_declared.specs.Declarations.{all_functions, declared_functions}
+use Rattle.np_names.specs.Declarations.{all_functions, declared_functions}
 use Rattle.np_declared.specs.Symbols.{signature}
 use Rattle.np_declared.proofs.tables.functions.Given as goal
 

@@ -1,6 +1,6 @@
 use Rattle.std.proofs.Common.{refl, []}
 use Rattle.np_declared.specs.LookUps.{HasTables}
-use Rattle.np_declared.proofs.Answering.{memory_answers}
+use Rattle.np_names.proofs.Answering.{memory_answers}
 use Rattle.np_declared.proofs.HasTables.{has_tables}
 use Rattle.np_declared.proofs.tables.numbered.Goals as goal
 

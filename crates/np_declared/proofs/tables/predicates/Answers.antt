@@ -1,8 +1,8 @@
 use Rattle.std.proofs.Common.{◌++◌, ◌+◌, map, drop, ap, ◌∙◌}
 use Rattle.std.specs.List.{flat_map}
-use Rattle.np_declared.specs.Declarations.{declared_predicates}
+use Rattle.np_names.specs.Declarations.{declared_predicates}
 use Rattle.np_declared.specs.Symbols.{signature}
-use Rattle.np_declared.proofs.Lists.{part_next, put_front}
+use Rattle.np_names.proofs.Lists.{part_next, put_front}
 use Rattle.np_declared.proofs.TableLaws.{signatures_more}
 use Rattle.np_declared.proofs.tables.predicates.Goals as goal
 

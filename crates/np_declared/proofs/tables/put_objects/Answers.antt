@@ -1,6 +1,6 @@
 use Rattle.std.proofs.Common.{◌++◌, ◌+◌, map, drop, ap, ◌∙◌}
 use Rattle.np_declared.specs.Types.{type_number, objects_in}
-use Rattle.np_declared.proofs.Lists.{put_front}
+use Rattle.np_names.proofs.Lists.{put_front}
 use Rattle.np_declared.proofs.TableLaws.{objects_next}
 use Rattle.np_declared.proofs.tables.put_objects.Goals as goal
 

@@ -1,6 +1,6 @@
 use Rattle.std.proofs.Common.{◌∙◌}
 use Rattle.np_declared.specs.Symbols.{touched, changed}
-use Rattle.np_declared.proofs.Repeats.{add_next}
+use Rattle.np_names.proofs.Repeats.{add_next}
 use Rattle.np_declared.proofs.TouchedLaws.{touched_and}
 use Rattle.np_declared.proofs.touched.+touched.Goals as goal
 

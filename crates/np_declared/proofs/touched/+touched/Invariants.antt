@@ -1,6 +1,6 @@
 use Rattle.std.proofs.Common.{◌≡◌, fold, drop}
 use Rattle.std.specs.List.{flat_map}
-use Rattle.np_declared.specs.Names.{with_name, texts}
+use Rattle.np_names.specs.Names.{with_name, texts}
 use Rattle.np_declared.specs.Symbols.{touched, changed}
 use Rattle.np_declared.proofs.touched.+touched.Given as goal
 

@@ -1,6 +1,6 @@
 use Rattle.std.proofs.Common.{◌∙◌}
 use Rattle.np_declared.specs.Symbols.{section_touched, section_changed}
-use Rattle.np_declared.proofs.Repeats.{add_next}
+use Rattle.np_names.proofs.Repeats.{add_next}
 use Rattle.np_declared.proofs.touched.touched_symbols.Goals as goal
 
 pub loop-section-preserved : goal.loop-section-preserved

@@ -1,6 +1,6 @@
 use Rattle.std.proofs.Common.{◌≡◌, fold, drop}
 use Rattle.std.specs.List.{flat_map}
-use Rattle.np_declared.specs.Names.{with_name, firsts, texts}
+use Rattle.np_names.specs.Names.{with_name, firsts, texts}
 use Rattle.np_declared.specs.Symbols.{all_touched, all_changed, section_touched, section_changed}
 use Rattle.np_declared.proofs.touched.touched_symbols.Given as goal
 

@@ -1,8 +1,9 @@
 use Rattle.std.proofs.Common.{◌∙◌}
-use Rattle.np_declared.specs.declared.fault.Source.TheVariants.{Domain}
-use Rattle.np_declared.specs.declared.fault.TypeWhy.TheVariants.{TypeCycle}
-use Rattle.np_declared.specs.Declarations.{type_groups, cyclic_words}
-use Rattle.np_declared.proofs.Repeats.{past_part}
+use Rattle.np_names.specs.declared.fault.Source.TheVariants.{Domain}
+use Rattle.np_names.specs.declared.fault.TypeWhy.TheVariants.{TypeCycle}
+use Rattle.np_names.specs.Declarations.{type_groups}
+use Rattle.np_declared.specs.TypeRules.{cyclic_words}
+use Rattle.np_names.proofs.Repeats.{past_part}
 use Rattle.np_declared.proofs.TableLaws.{cyclic_more}
 use Rattle.np_declared.proofs.types.acyclic.Goals as goal
 

@@ -1,6 +1,7 @@
 use Rattle.std.proofs.Common.{◌≡◌, drop}
 use Rattle.std.specs.List.{flat_map}
-use Rattle.np_declared.specs.Declarations.{type_groups, all_types, cyclic_words}
+use Rattle.np_names.specs.Declarations.{type_groups, all_types}
+use Rattle.np_declared.specs.TypeRules.{cyclic_words}
 use Rattle.np_declared.proofs.types.acyclic.Given as goal
 
 -- types under themselves are in the sections that are left

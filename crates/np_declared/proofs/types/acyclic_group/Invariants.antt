@@ -1,5 +1,5 @@
 use Rattle.std.proofs.Common.{◌≡◌, filter, drop}
-use Rattle.np_declared.specs.Declarations.{is_cyclic}
+use Rattle.np_declared.specs.TypeRules.{is_cyclic}
 use Rattle.np_declared.proofs.types.acyclic_group.Given as goal
 
 -- types under themselves are among the words that are left

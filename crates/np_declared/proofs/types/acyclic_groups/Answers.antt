@@ -1,8 +1,8 @@
 use Rattle.std.proofs.Common.{◌∙◌, filter}
-use Rattle.np_declared.specs.declared.fault.Source.TheVariants.{Domain}
-use Rattle.np_declared.specs.declared.fault.TypeWhy.TheVariants.{TypeCycle}
-use Rattle.np_declared.specs.Declarations.{is_cyclic}
-use Rattle.np_declared.proofs.Repeats.{past_item}
+use Rattle.np_names.specs.declared.fault.Source.TheVariants.{Domain}
+use Rattle.np_names.specs.declared.fault.TypeWhy.TheVariants.{TypeCycle}
+use Rattle.np_declared.specs.TypeRules.{is_cyclic}
+use Rattle.np_names.proofs.Repeats.{past_item}
 use Rattle.np_declared.proofs.types.acyclic_groups.Goals as goal
 
 pub loop-group-preserved : goal.loop-group-preserved

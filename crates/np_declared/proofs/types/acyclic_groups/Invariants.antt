@@ -1,5 +1,5 @@
 use Rattle.std.proofs.Common.{◌≡◌, drop}
-use Rattle.np_declared.specs.Declarations.{cyclic_words}
+use Rattle.np_declared.specs.TypeRules.{cyclic_words}
 use Rattle.np_declared.proofs.types.acyclic_groups.Given as goal
 
 -- types under themselves are in the groups that are left

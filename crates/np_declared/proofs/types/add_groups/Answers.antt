@@ -1,9 +1,9 @@
 use Rattle.std.proofs.Common.{◌+◌, drop, fold, ap, ◌∙◌}
 use Rattle.std.specs.List.{flat_map}
-use Rattle.np_declared.specs.Names.{with_name, texts}
+use Rattle.np_names.specs.Names.{with_name, texts}
 use Rattle.np_declared.specs.Types.{type_words}
-use Rattle.np_declared.proofs.Lists.{flat_map_next}
-use Rattle.np_declared.proofs.Repeats.{add_front}
+use Rattle.np_names.proofs.Lists.{flat_map_next}
+use Rattle.np_names.proofs.Repeats.{add_front}
 use Rattle.np_declared.proofs.types.add_groups.Goals as goal
 
 pub loop-group-preserved : goal.loop-group-preserved

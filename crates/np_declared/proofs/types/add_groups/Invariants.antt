@@ -1,6 +1,6 @@
 use Rattle.std.proofs.Common.{◌≡◌, fold, drop}
 use Rattle.std.specs.List.{flat_map}
-use Rattle.np_declared.specs.Names.{with_name, texts}
+use Rattle.np_names.specs.Names.{with_name, texts}
 use Rattle.np_declared.specs.Types.{type_words}
 use Rattle.np_declared.proofs.types.add_groups.Given as goal
 

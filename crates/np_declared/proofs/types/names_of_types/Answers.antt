@@ -1,10 +1,10 @@
 use Rattle.std.proofs.Common.{◌+◌, drop, fold, ap, ◌∙◌}
 use Rattle.std.specs.List.{flat_map}
-use Rattle.np_declared.specs.Declarations.{type_groups}
-use Rattle.np_declared.specs.Names.{with_name, texts}
+use Rattle.np_names.specs.Declarations.{type_groups}
+use Rattle.np_names.specs.Names.{with_name, texts}
 use Rattle.np_declared.specs.Types.{type_words}
-use Rattle.np_declared.proofs.Lists.{part_next}
-use Rattle.np_declared.proofs.Repeats.{add_front}
+use Rattle.np_names.proofs.Lists.{part_next}
+use Rattle.np_names.proofs.Repeats.{add_front}
 use Rattle.np_declared.proofs.TableLaws.{type_words_more}
 use Rattle.np_declared.proofs.types.names_of_types.Goals as goal
 

@@ -1,7 +1,7 @@
 use Rattle.std.proofs.Common.{◌≡◌, fold, drop}
 use Rattle.std.specs.List.{flat_map}
-use Rattle.np_declared.specs.Declarations.{type_groups, all_types}
-use Rattle.np_declared.specs.Names.{with_name, texts}
+use Rattle.np_names.specs.Declarations.{type_groups, all_types}
+use Rattle.np_names.specs.Names.{with_name, texts}
 use Rattle.np_declared.specs.Types.{type_words, type_names}
 use Rattle.np_declared.proofs.types.names_of_types.Given as goal
 

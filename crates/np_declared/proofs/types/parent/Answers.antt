@@ -1,7 +1,7 @@
 use Rattle.std.proofs.Common.{List, ℕ, Option, sym, ap, ◌∙◌}
 use Rattle.std.specs.Borrow.{Bor}
 use Rattle.std.specs.Option.{option_map_or}
-use Rattle.np_declared.specs.Names.{number_of, object}
+use Rattle.np_names.specs.Names.{number_of, object}
 use Rattle.np_declared.specs.Types.{type_names}
 use Rattle.np_declared.proofs.SupertypeLaws.{object_number}
 use Rattle.np_declared.proofs.types.parent.Goals as goal

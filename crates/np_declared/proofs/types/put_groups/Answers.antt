@@ -1,6 +1,6 @@
 use Rattle.std.proofs.Common.{◌++◌, ◌+◌, take, arith, sym, ap, ◌∙◌, append_assoc}
 use Rattle.std.proofs.lemmas.Grind.{common_steps}
-use Rattle.np_declared.specs.Names.{typed, typed_words}
+use Rattle.np_names.specs.Names.{typed, typed_words}
 use Rattle.np_declared.proofs.SupertypeLaws.{supertypes_like, typed_words_next}
 use Rattle.np_declared.proofs.types.put_groups.Goals as goal
 

@@ -1,5 +1,5 @@
 use Rattle.std.proofs.Common.{◌++◌, Some, [], ◌∷◌, take, refl, sym, ap, ◌∙◌, append_assoc}
-use Rattle.np_declared.specs.Names.{typed}
+use Rattle.np_names.specs.Names.{typed}
 use Rattle.np_declared.proofs.SupertypeLaws.{supertypes_more, supertypes_like, typed_word_more}
 use Rattle.np_declared.proofs.types.put_words.Goals as goal
 

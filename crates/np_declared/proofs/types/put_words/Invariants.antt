@@ -1,7 +1,7 @@
 use Rattle.std.proofs.Common.{◌++◌, List, Option, Some, take}
 use Rattle.np_words.specs.declared.word.Word.{Word}
 use Rattle.np_declared.specs.LookUps.{HasSupertypes}
-use Rattle.np_declared.specs.Names.{typed}
+use Rattle.np_names.specs.Names.{typed}
 use Rattle.np_declared.proofs.types.put_words.Given as goal
 
 -- the words so far are put after those before

@@ -2,8 +2,8 @@ use Rattle.std.proofs.Common.{◌++◌, ◌+◌, take, arith, refl, sym, ap, ◌
 use Rattle.std.proofs.lemmas.Grind.{common_steps}
 use Rattle.std.proofs.lemmas.List.{take_all}
 use Rattle.std.specs.List.{flat_map}
-use Rattle.np_declared.specs.Declarations.{type_groups, all_types}
-use Rattle.np_declared.specs.Names.{typed_words}
+use Rattle.np_names.specs.Declarations.{type_groups, all_types}
+use Rattle.np_names.specs.Names.{typed_words}
 use Rattle.np_declared.proofs.SupertypeLaws.{supertypes_like, typed_parts_next}
 use Rattle.np_declared.proofs.types.supertypes.Goals as goal
 

@@ -1,8 +1,8 @@
 use Rattle.std.proofs.Common.{take}
 use Rattle.std.specs.List.{flat_map}
-use Rattle.np_declared.specs.Declarations.{type_groups}
+use Rattle.np_names.specs.Declarations.{type_groups}
 use Rattle.np_declared.specs.LookUps.{HasSupertypes}
-use Rattle.np_declared.specs.Names.{typed_words}
+use Rattle.np_names.specs.Names.{typed_words}
 use Rattle.np_declared.proofs.types.supertypes.Given as goal
 
 -- the words of the sections so far are put

@@ -1,5 +1,5 @@
 use Rattle.std.proofs.Common.{sym, ap, ◌∙◌}
-use Rattle.np_declared.specs.Declarations.{all_types}
+use Rattle.np_names.specs.Declarations.{all_types}
 use Rattle.np_declared.specs.Symbols.{type_names_of}
 use Rattle.np_declared.proofs.HasTables.{type_names_back}
 use Rattle.np_declared.proofs.types.type_table.Goals as goal

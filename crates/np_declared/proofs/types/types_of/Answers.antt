@@ -1,5 +1,5 @@
 use Rattle.std.proofs.Common.{map, sym, ap, ◌∙◌}
-use Rattle.np_declared.specs.Declarations.{all_types}
+use Rattle.np_names.specs.Declarations.{all_types}
 use Rattle.np_declared.specs.Types.{type_named}
 use Rattle.np_declared.proofs.SupertypeLaws.{named_keys}
 use Rattle.np_declared.proofs.types.types_of.Goals as goal

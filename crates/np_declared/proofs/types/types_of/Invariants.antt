@@ -1,5 +1,5 @@
 use Rattle.std.proofs.Common.{◌≡◌, ◌++◌, map, drop}
-use Rattle.np_declared.specs.Declarations.{all_types}
+use Rattle.np_names.specs.Declarations.{all_types}
 use Rattle.np_declared.specs.Types.{type_named, types_of}
 use Rattle.np_declared.proofs.types.types_of.Given as goal
 

@@ -1,5 +1,5 @@
 use Rattle.std.proofs.Common.{◌≡◌, drop}
-use Rattle.np_declared.specs.Declarations.{unknown_in}
+use Rattle.np_declared.specs.TypeRules.{unknown_in}
 use Rattle.np_declared.proofs.unknown.known_in.Given as goal
 
 -- unknown types are in the groups that are left

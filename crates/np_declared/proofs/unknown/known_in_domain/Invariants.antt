@@ -1,6 +1,6 @@
 use Rattle.std.proofs.Common.{◌≡◌, drop}
 use Rattle.std.specs.List.{flat_map}
-use Rattle.np_declared.specs.Declarations.{section_unknown}
+use Rattle.np_declared.specs.TypeRules.{section_unknown}
 use Rattle.np_declared.proofs.unknown.known_in_domain.Given as goal
 
 -- unknown types are in the sections that are left

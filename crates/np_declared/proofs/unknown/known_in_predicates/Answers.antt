@@ -1,8 +1,8 @@
 use Rattle.std.proofs.Common.{◌∙◌}
-use Rattle.np_declared.specs.declared.fault.Source.TheVariants.{Domain}
-use Rattle.np_declared.specs.declared.fault.TypeWhy.TheVariants.{UnknownType}
-use Rattle.np_declared.specs.Declarations.{unknown_in}
-use Rattle.np_declared.proofs.Repeats.{past_item}
+use Rattle.np_names.specs.declared.fault.Source.TheVariants.{Domain}
+use Rattle.np_names.specs.declared.fault.TypeWhy.TheVariants.{UnknownType}
+use Rattle.np_declared.specs.TypeRules.{unknown_in}
+use Rattle.np_names.proofs.Repeats.{past_item}
 use Rattle.np_declared.proofs.unknown.known_in_predicates.Goals as goal
 
 pub loop-declared-preserved : goal.loop-declared-preserved

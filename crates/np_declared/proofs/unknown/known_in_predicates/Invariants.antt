@@ -1,6 +1,6 @@
 use Rattle.std.proofs.Common.{◌≡◌, drop}
 use Rattle.std.specs.List.{flat_map}
-use Rattle.np_declared.specs.Declarations.{unknown_in}
+use Rattle.np_declared.specs.TypeRules.{unknown_in}
 use Rattle.np_declared.proofs.unknown.known_in_predicates.Given as goal
 
 -- unknown types are in those that are left

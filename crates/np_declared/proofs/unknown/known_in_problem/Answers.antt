@@ -1,8 +1,9 @@
 use Rattle.std.proofs.Common.{◌∙◌}
-use Rattle.np_declared.specs.declared.fault.Source.TheVariants.{Problem}
-use Rattle.np_declared.specs.declared.fault.TypeWhy.TheVariants.{UnknownType}
-use Rattle.np_declared.specs.Declarations.{unknown_in, object_groups}
-use Rattle.np_declared.proofs.Repeats.{past_part}
+use Rattle.np_names.specs.declared.fault.Source.TheVariants.{Problem}
+use Rattle.np_names.specs.declared.fault.TypeWhy.TheVariants.{UnknownType}
+use Rattle.np_names.specs.Declarations.{object_groups}
+use Rattle.np_declared.specs.TypeRules.{unknown_in}
+use Rattle.np_names.proofs.Repeats.{past_part}
 use Rattle.np_declared.proofs.TableLaws.{unknown_more}
 use Rattle.np_declared.proofs.unknown.known_in_problem.Goals as goal
 

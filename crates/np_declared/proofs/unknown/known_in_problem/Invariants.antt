@@ -1,6 +1,7 @@
 use Rattle.std.proofs.Common.{◌≡◌, drop}
 use Rattle.std.specs.List.{flat_map}
-use Rattle.np_declared.specs.Declarations.{unknown_in, object_groups}
+use Rattle.np_names.specs.Declarations.{object_groups}
+use Rattle.np_declared.specs.TypeRules.{unknown_in}
 use Rattle.np_declared.proofs.unknown.known_in_problem.Given as goal
 
 -- unknown types are in the sections that are left

@@ -1,6 +1,6 @@
 use Rattle.std.proofs.Common.{sym, subst}
 use Rattle.np_model.specs.Tasks.{IsTask}
-use Rattle.np_declared.proofs.Answering.{none_more}
+use Rattle.np_names.proofs.Answering.{none_more}
 use Rattle.np_typing.proofs.TaskLaws.{keeps}
 use Rattle.np_typing.proofs.task.resolve.Goals as goal
 

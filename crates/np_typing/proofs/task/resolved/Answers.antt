@@ -3,7 +3,7 @@ use Rattle.np_model.specs.declared.task.TaskParts.{TaskParts}
 use Rattle.np_declared.specs.Rules.{declaration_faults}
 use Rattle.np_typing.specs.Rules.{use_faults, problem_use_faults}
 use Rattle.np_typing.specs.TaskOf.{task_of}
-use Rattle.np_declared.proofs.DeclarationLaws.{answers_like}
+use Rattle.np_names.proofs.DeclarationLaws.{answers_like}
 use Rattle.np_typing.proofs.task.resolved.Goals as goal
 
 pub returns : goal.returns

@@ -1,5 +1,5 @@
 use Rattle.std.proofs.Common.{◌≡◌, sym, ap, ◌∙◌}
-use Rattle.np_declared.specs.declared.fault.Source.TheVariants.{Domain as InDomain}
+use Rattle.np_names.specs.declared.fault.Source.TheVariants.{Domain as InDomain}
 use Rattle.np_typing.specs.LookUps.{scope_from}
 use Rattle.np_typing.specs.Scopes.{Scope, with_parameters}
 use Rattle.np_declared.specs.Types.{numbers_in}

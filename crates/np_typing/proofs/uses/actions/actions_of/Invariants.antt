@@ -1,6 +1,6 @@
 use Rattle.std.proofs.Common.{◌≡◌, take, drop}
 use Rattle.std.specs.List.{flat_map}
-use Rattle.np_declared.specs.declared.fault.Source.TheVariants.{Domain as InDomain}
+use Rattle.np_names.specs.declared.fault.Source.TheVariants.{Domain as InDomain}
 use Rattle.np_typing.specs.LookUps.{scope_from}
 use Rattle.np_typing.specs.Rules.{section_use_faults}
 use Rattle.np_typing.specs.TaskOf.{section_actions}

@@ -1,6 +1,6 @@
 use Rattle.std.proofs.Common.{List, [], ◌++◌, sym, ap, ◌∙◌}
 use Rattle.np_model.specs.declared.task.Action.{Action}
-use Rattle.np_declared.specs.declared.fault.Source.TheVariants.{Domain as InDomain}
+use Rattle.np_names.specs.declared.fault.Source.TheVariants.{Domain as InDomain}
 use Rattle.np_typing.specs.LookUps.{scope_from}
 use Rattle.np_typing.proofs.UsesAnswers.{handed, first_same, answers_same}
 use Rattle.np_typing.proofs.UsesActions.{section_faults_are, section_action_is}

@@ -1,5 +1,5 @@
 use Rattle.std.proofs.Common.{fold, refl, ap, ◌∙◌}
-use Rattle.np_declared.specs.Names.{texts, with_name}
+use Rattle.np_names.specs.Names.{texts, with_name}
 use Rattle.np_typing.proofs.UsesActions.{names_more, names_all}
 use Rattle.np_typing.proofs.uses.actions.variables.Goals as goal
 

@@ -1,5 +1,5 @@
 use Rattle.std.proofs.Common.{◌≡◌, take}
-use Rattle.np_declared.specs.Names.{texts, words_of, firsts}
+use Rattle.np_names.specs.Names.{texts, words_of, firsts}
 use Rattle.np_typing.proofs.uses.actions.variables.Given as goal
 
 -- the names of the groups so far

@@ -1,7 +1,7 @@
 use Rattle.std.proofs.Common.{◌<◌, map, length, ◌∙◌, arith}
 use Rattle.np_words.specs.declared.word.Word.{Word}
 use Rattle.np_words.specs.declared.word.Ident.TheVariants as ident
-use Rattle.np_declared.specs.Names.{number_of}
+use Rattle.np_names.specs.Names.{number_of}
 use Rattle.np_declared.specs.Symbols.{object_names}
 use Rattle.np_typing.proofs.UsesAnswers.{handed}
 use Rattle.np_typing.proofs.UsesArguments.{arguments_fault, arguments_left, mapped_more, same_length, name_at}

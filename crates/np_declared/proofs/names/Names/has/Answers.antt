@@ -1,7 +1,0 @@
-use Rattle.std.proofs.Common.{ap, ◌∙◌}
-use Rattle.np_declared.specs.Names.{is_among}
-use Rattle.np_declared.proofs.NameSets.{any_key}
-use Rattle.np_declared.proofs.names.Names.has.Goals as goal
-
-pub returns : goal.returns
-returns c = c.contains.ensures ∙ (any_key c.args.name.now c.self.inside.set.keys ∙ ap (is_among c.args.name.now) c.self.view_is)

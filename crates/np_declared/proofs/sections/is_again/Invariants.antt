@@ -1,8 +1,0 @@
-use Rattle.std.proofs.Common.{◌≡◌, drop}
-use Rattle.std.specs.List.{list_any}
-use Rattle.np_declared.specs.Sections.{same_section}
-use Rattle.np_declared.proofs.sections.is_again.Given as goal
-
--- it is among those that are left
-abbrev pub invariant-loop-other : goal.invariant-loop-other
-invariant-loop-other l = list_any (same_section l.section) l.before ≡ list_any (same_section l.section) (drop l.other-index l.before)

@@ -1,0 +1,8 @@
+use Rattle.std.proofs.Common.{◌≡◌, drop}
+use Rattle.std.specs.List.{list_any}
+use Rattle.np_names.specs.Sections.{is_goal}
+use Rattle.np_names.proofs.sections.has_goal.Given as goal
+
+-- it is among those that are left
+abbrev pub invariant-loop-section : goal.invariant-loop-section
+invariant-loop-section l = list_any is_goal l.sections ≡ list_any is_goal (drop l.section-index l.sections)
