@@ -8,7 +8,7 @@ use Rattle.np_model.specs.Tasks.{IsTask}
 use Rattle.np_words.specs.Texts.{IsSpelled, KeepsPlaces}
 use Rattle.np_syntax.specs.declared.domain.Domain.{Domain}
 use Rattle.np_problem.specs.declared.problem.Problem.{Problem}
-use Rattle.np_declared.specs.declared.fault.TypeFault.TheVariants.{At}
+use Rattle.np_names.specs.declared.fault.TypeFault.TheVariants.{At}
 use Rattle.np_typing.specs.TaskOf.{task_of}
 use Rattle.np_typing.specs.Typing.{IsWellFormed, IsFirstFault}
 use Rattle.np_words.specs.declared.fault.ReadFault.{ReadFault}

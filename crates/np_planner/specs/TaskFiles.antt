@@ -12,8 +12,8 @@ use Rattle.np_read.specs.Marks.{Mark}
 use Rattle.np_problem.specs.declared.problem.Problem.{Problem}
 use Rattle.np_problem.specs.ProblemText.{IsProblem}
 use Rattle.np_problem.specs.Problems.{problem_text, problem_marks}
-use Rattle.np_declared.specs.declared.fault.TypeFault.{TypeFault}
-use Rattle.np_declared.specs.declared.fault.TypeFault.TheVariants.{At}
+use Rattle.np_names.specs.declared.fault.TypeFault.{TypeFault}
+use Rattle.np_names.specs.declared.fault.TypeFault.TheVariants.{At}
 use Rattle.np_typing.specs.TaskOf.{task_of}
 use Rattle.np_typing.specs.Typing.{IsWellFormed, IsFirstFault}
 use Rattle.np_planner.specs.declared.answer.File.{File}

@@ -2,10 +2,10 @@
 use Rattle.std.specs.Prelude.{ℕ, ◌==◌, List, [], ◌++◌, codes, decimal, if◌then◌else◌}
 use Rattle.np_frac.specs.Fractions.{Fraction}
 use Rattle.np_lex.specs.declared.token.Place.{Place}
-use Rattle.np_declared.specs.declared.fault.Source.{Source}
-use Rattle.np_declared.specs.declared.fault.Source.TheVariants as source
-use Rattle.np_declared.specs.declared.fault.TypeWhy.{TypeWhy}
-use Rattle.np_declared.specs.declared.fault.TypeWhy.TheVariants as why
+use Rattle.np_names.specs.declared.fault.Source.{Source}
+use Rattle.np_names.specs.declared.fault.Source.TheVariants as source
+use Rattle.np_names.specs.declared.fault.TypeWhy.{TypeWhy}
+use Rattle.np_names.specs.declared.fault.TypeWhy.TheVariants as why
 use Rattle.np_run.specs.declared.answers.RunEnd.{RunEnd}
 use Rattle.np_run.specs.declared.answers.RunEnd.TheVariants.{Goal, NoGoal, Stuck, NoCost}
 use Rattle.np_cert.specs.Text.{integer_text}
