@@ -2,7 +2,7 @@
 #![tactic(auto)]
 
 use np_io::{FileShelf, OutSink};
-use np_planner::program;
+use np_program::program;
 use std::process::ExitCode;
 
 fn main(rt: HostRuntime) -> ExitCode {

@@ -13,6 +13,8 @@ mod frac;
 #[cfg(test)]
 mod io;
 #[cfg(test)]
+mod plans;
+#[cfg(test)]
 mod search;
 #[cfg(test)]
 mod space;

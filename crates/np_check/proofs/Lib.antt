@@ -4,3 +4,6 @@ pub mod Ascending
 pub mod LookUps
 pub mod Checks
 pub mod Faults
+mod StepNumbers
+mod PlanRuns
+mod OnePlanEnd

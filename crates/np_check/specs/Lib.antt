@@ -3,3 +3,5 @@ pub mod Bounds
 pub mod Laws
 pub mod First
 pub mod Steps
+pub mod PlanEnds
+pub mod Walks

@@ -1,4 +1,4 @@
-//! The checker of certificates. It shares nothing with any search.
+//! The checker of certificates and plans. It shares nothing with any search.
 //!
 //! What makes a certificate valid, and the order of its faults, are this project's own.
 #![tactic(auto)]
@@ -8,9 +8,15 @@ mod check;
 mod first;
 mod fitting;
 mod laws;
+mod numbers;
+mod plan;
+mod plan_end;
 mod scratch;
 mod verdict;
+mod walk;
 
 pub use check::check_certificate;
-pub use laws::{claim_bounds, fault_is_no_yes, one_verdict};
+pub use laws::{claim_bounds, fault_is_no_yes, one_plan_end, one_verdict};
+pub use plan::check_plan;
+pub use plan_end::PlanEnd;
 pub use verdict::Verdict;

@@ -17,12 +17,12 @@ use Rattle.np_first_text.specs.FirstForm.{IsFirstForm}
 use Rattle.np_first_text.specs.TaskOf.{task_of}
 use Rattle.np_first.specs.FlatOf.{flat_of}
 use Rattle.np_first.proofs.SameFlatPlans.{flat_bound_is, flat_none_is}
-use Rattle.np_planner.specs.declared.answer.File.TheVariants as file
-use Rattle.np_planner.specs.declared.answer.check.CheckAnswer.{CheckAnswer}
-use Rattle.np_planner.specs.declared.answer.check.CheckAnswer.TheVariants.{Yes, No}
-use Rattle.np_planner.specs.declared.answer.Answer.{Answer}
-use Rattle.np_planner.specs.declared.answer.Answer.TheVariants.{CannotRead, Refused, Checked, OutOfMemory}
-use Rattle.np_planner.specs.Words.{Check}
+use Rattle.np_answers.specs.declared.answer.File.TheVariants as file
+use Rattle.np_answers.specs.declared.answer.check.CheckAnswer.{CheckAnswer}
+use Rattle.np_answers.specs.declared.answer.check.CheckAnswer.TheVariants.{Yes, No}
+use Rattle.np_answers.specs.declared.answer.Answer.{Answer}
+use Rattle.np_answers.specs.declared.answer.Answer.TheVariants.{CannotRead, Refused, Checked, OutOfMemory}
+use Rattle.np_answers.specs.Words.{Check}
 use Rattle.np_planner.specs.Shelves.{HoldsPair}
 use Rattle.np_planner.specs.CheckAnswers.{IsTrueClaim, IsTrueOfCertificate}
 use Rattle.np_planner.specs.RightAnswers.{IsCheckAnswer}

@@ -3,14 +3,14 @@ use Rattle.std.proofs.Common.{◌≡◌, ℕ, Bool, true, false, true≢false, L
 use Rattle.std.proofs.lemmas.Option.{same_Some}
 use Rattle.np_io.specs.Seen.{SeenShelf}
 use Rattle.np_io.specs.Files.{Files, Changes, HasPut, IsHeld}
-use Rattle.np_planner.specs.declared.answer.solve.SolveAnswer.{SolveAnswer}
-use Rattle.np_planner.specs.declared.answer.solve.SolveAnswer.TheVariants.{Optimal}
-use Rattle.np_planner.specs.Words.{Solve}
+use Rattle.np_answers.specs.declared.answer.solve.SolveAnswer.{SolveAnswer}
+use Rattle.np_answers.specs.declared.answer.solve.SolveAnswer.TheVariants.{Optimal}
+use Rattle.np_answers.specs.Words.{Solve}
 use Rattle.np_planner.specs.Shelves.{HasPutBoth}
 use Rattle.np_planner.specs.SolveAnswers.{claim_of, HasPutFor, IsRightSolve}
 use Rattle.np_planner.specs.CheckAnswers.{HoldsValid}
 use Rattle.np_planner.specs.Promises.{check_after}
-use Rattle.np_planner.proofs.Apart.{AreApart}
+use Rattle.np_answers.proofs.Apart.{AreApart}
 
 -- the certificate is under CERT, and the pair's files are as before
 record Keeps (command : Solve) (certificate : List ℕ) (old new : Files) : Type 0 where

@@ -17,21 +17,21 @@ use Rattle.np_first_text.specs.declared.syntax.Problem.{Problem}
 use Rattle.np_first_text.specs.FirstForm.{SpellsPair}
 use Rattle.np_first.specs.FlatOf.{flat_of}
 use Rattle.np_first_text.proofs.ReadingTexts.{one_domain, one_problem}
-use Rattle.np_planner.specs.declared.answer.File.TheVariants as file
-use Rattle.np_planner.specs.declared.answer.refusal.Refusal.{Refusal}
-use Rattle.np_planner.specs.declared.answer.refusal.Refusal.TheVariants.{TooLong, Syntax, CertificateNotBuilt}
-use Rattle.np_planner.specs.declared.answer.check.CheckAnswer.TheVariants.{Yes, No}
-use Rattle.np_planner.specs.declared.answer.check.Fault.{Fault}
-use Rattle.np_planner.specs.declared.answer.check.Fault.TheVariants.{ProofFails, Repeats, Unjustified, ClaimAbove}
-use Rattle.np_planner.specs.declared.answer.Answer.{Answer}
-use Rattle.np_planner.specs.declared.answer.Answer.TheVariants.{CannotRead, Refused, Checked, OutOfMemory}
+use Rattle.np_answers.specs.declared.answer.File.TheVariants as file
+use Rattle.np_answers.specs.declared.answer.refusal.Refusal.{Refusal}
+use Rattle.np_answers.specs.declared.answer.refusal.Refusal.TheVariants.{TooLong, Syntax, CertificateNotBuilt}
+use Rattle.np_answers.specs.declared.answer.check.CheckAnswer.TheVariants.{Yes, No}
+use Rattle.np_answers.specs.declared.answer.check.Fault.{Fault}
+use Rattle.np_answers.specs.declared.answer.check.Fault.TheVariants.{ProofFails, Repeats, Unjustified, ClaimAbove}
+use Rattle.np_answers.specs.declared.answer.Answer.{Answer}
+use Rattle.np_answers.specs.declared.answer.Answer.TheVariants.{CannotRead, Refused, Checked, OutOfMemory}
 use Rattle.np_planner.specs.declared.inputs.TheConstants.{MOST_BYTES}
-use Rattle.np_planner.specs.Words.{Check, Command, checking}
-use Rattle.np_planner.specs.Texts.{status_of}
+use Rattle.np_answers.specs.Words.{Check, Command, checking}
+use Rattle.np_answers.specs.Texts.{status_of}
 use Rattle.np_planner.specs.Shelves.{AreRead}
 use Rattle.np_planner.specs.CheckAnswers.{IsRightCheck, HoldsValid, verdict_of}
 use Rattle.np_planner.specs.RightAnswers.{HoldsNoPair, IsCertificateReason, IsRight, IsRightTo}
-use Rattle.np_planner.specs.Output.{IsAnsweredBy}
+use Rattle.np_answers.specs.Output.{IsAnsweredBy}
 use Rattle.np_planner.specs.Promises.{Call, Says, IsAnswered, HadNoFault}
 
 -- what is under a name that is told

@@ -1,9 +1,7 @@
-pub mod Apart
 pub mod CheckEnds
 pub mod Checkable
 pub mod Coming
 pub mod Limits
-pub mod Numbers
 pub mod Promises
 pub mod RunEnds
 pub mod SpelledPairs

@@ -2,7 +2,6 @@
 use Rattle.std.proofs.Common.{◌≡◌, ◌^◌, refl}
 use Rattle.np_plan.specs.declared.read.TheConstants.{MOST_STEPS}
 use Rattle.np_planner.specs.declared.inputs.TheConstants.{MOST_BYTES}
-use Rattle.np_planner.specs.declared.words.TheConstants.{MOST_NODES}
 
 -- the most bytes of a domain and of a problem
 pub most_bytes : MOST_BYTES ≡ 2 ^ 24
@@ -11,7 +10,3 @@ most_bytes = refl
 -- the most steps of a plan
 pub most_steps : MOST_STEPS ≡ 2 ^ 24
 most_steps = refl
-
--- the most states that a search expands
-pub most_nodes : MOST_NODES ≡ 2 ^ 24
-most_nodes = refl

@@ -2,19 +2,19 @@
 use Rattle.std.proofs.Common.{◌≡◌, ℕ, inl, inr, List, Option, Some, None, refl, sym, subst}
 use Rattle.np_io.specs.Seen.{SeenShelf, SeenSink}
 use Rattle.np_run.specs.declared.answers.RunEnd.TheVariants.{Goal, NoGoal, Stuck, NoCost}
-use Rattle.np_planner.specs.declared.answer.solve.SolveAnswer.{SolveAnswer}
-use Rattle.np_planner.specs.declared.answer.solve.SolveAnswer.TheVariants.{Optimal, Unsolvable, Spent}
-use Rattle.np_planner.specs.declared.answer.check.CheckAnswer.TheVariants.{Yes, No}
-use Rattle.np_planner.specs.declared.answer.Answer.{Answer}
-use Rattle.np_planner.specs.declared.answer.Answer.TheVariants.{Usage, CannotRead, Refused, Solved, Checked, Ran, CannotWrite, OutOfMemory}
-use Rattle.np_planner.specs.Words.{Solve, Check, Run, Command, solving, checking, running}
-use Rattle.np_planner.specs.Texts.{status_of}
+use Rattle.np_answers.specs.declared.answer.solve.SolveAnswer.{SolveAnswer}
+use Rattle.np_answers.specs.declared.answer.solve.SolveAnswer.TheVariants.{Optimal, Unsolvable, Spent}
+use Rattle.np_answers.specs.declared.answer.check.CheckAnswer.TheVariants.{Yes, No}
+use Rattle.np_answers.specs.declared.answer.Answer.{Answer}
+use Rattle.np_answers.specs.declared.answer.Answer.TheVariants.{Usage, CannotRead, Refused, Solved, Checked, Ran, CannotWrite, OutOfMemory}
+use Rattle.np_answers.specs.Words.{Solve, Check, Run, Command, solving, checking, running}
+use Rattle.np_answers.specs.Texts.{status_of}
 use Rattle.np_planner.specs.SolveAnswers.{IsRightSolve}
 use Rattle.np_planner.specs.RightAnswers.{IsRight, IsRightTo}
-use Rattle.np_planner.specs.Output.{IsAnsweredBy}
+use Rattle.np_answers.specs.Output.{IsAnsweredBy}
 use Rattle.np_planner.specs.Promises.{Call, call_of, Says, IsAnswered, IsTold, IsSolveTold, IsOptimal, IsYes, HasNoPlan, IsBudgetSpent, WhenSolving, IsPushCut, IsOutOfMemory, Status, status_named, Promise, KeepsPromise, KeepsItsWord}
 use Rattle.np_planner.specs.Promises as kind
-use Rattle.np_planner.proofs.Apart.{AreApart, solving_apart}
+use Rattle.np_answers.proofs.Apart.{AreApart, solving_apart}
 use Rattle.np_planner.proofs.Checkable.{checkable}
 use Rattle.np_planner.proofs.Coming.{comes}
 

@@ -9,10 +9,10 @@ use Rattle.np_model.specs.declared.task.TaskParts.{TaskParts}
 use Rattle.np_model.specs.Steps.{is_step}
 use Rattle.np_plan.specs.declared.plan.PlanLine.{PlanLine}
 use Rattle.np_plan.specs.Plans.{NameAll}
-use Rattle.np_planner.specs.declared.answer.File.TheVariants as file
-use Rattle.np_planner.specs.declared.answer.Answer.{Answer}
-use Rattle.np_planner.specs.declared.answer.Answer.TheVariants.{CannotRead, Refused, Ran, OutOfMemory}
-use Rattle.np_planner.specs.Words.{Run}
+use Rattle.np_answers.specs.declared.answer.File.TheVariants as file
+use Rattle.np_answers.specs.declared.answer.Answer.{Answer}
+use Rattle.np_answers.specs.declared.answer.Answer.TheVariants.{CannotRead, Refused, Ran, OutOfMemory}
+use Rattle.np_answers.specs.Words.{Run}
 use Rattle.np_planner.specs.ReadSteps.{IsNotFetched}
 use Rattle.np_planner.specs.RunAnswers.{SpellsPlan, IsRunAnswer, HoldsPlanFor}
 use Rattle.np_planner.specs.RunSteps.{HoldsTaskAs, IsRunBy}

@@ -9,13 +9,13 @@ use Rattle.np_first.specs.Certified.{IsCertified}
 use Rattle.np_first_text.specs.declared.syntax.Domain.{Domain}
 use Rattle.np_first_text.specs.declared.syntax.Problem.{Problem}
 use Rattle.np_first.specs.FlatOf.{flat_of}
-use Rattle.np_planner.specs.declared.answer.File.TheVariants as file
-use Rattle.np_planner.specs.declared.answer.solve.SolveAnswer.{SolveAnswer}
-use Rattle.np_planner.specs.declared.answer.solve.SolveAnswer.TheVariants.{Optimal}
-use Rattle.np_planner.specs.declared.answer.Answer.{Answer}
-use Rattle.np_planner.specs.declared.answer.Answer.TheVariants.{Solved, CannotWrite, OutOfMemory}
+use Rattle.np_answers.specs.declared.answer.File.TheVariants as file
+use Rattle.np_answers.specs.declared.answer.solve.SolveAnswer.{SolveAnswer}
+use Rattle.np_answers.specs.declared.answer.solve.SolveAnswer.TheVariants.{Optimal}
+use Rattle.np_answers.specs.declared.answer.Answer.{Answer}
+use Rattle.np_answers.specs.declared.answer.Answer.TheVariants.{Solved, CannotWrite, OutOfMemory}
 use Rattle.np_planner.specs.declared.solve.Work.{Work}
-use Rattle.np_planner.specs.Words.{Solve}
+use Rattle.np_answers.specs.Words.{Solve}
 use Rattle.np_planner.specs.Shelves.{HoldsPair, IsFaultless, WriteFailed, HasPutBoth, HasPutFirst}
 use Rattle.np_planner.specs.SolveAnswers.{claim_of, IsTrueOfPair, HasPutFor, IsRightSolve, OnlyCertified}
 use Rattle.np_planner.specs.RightAnswers.{IsSolveAnswer}

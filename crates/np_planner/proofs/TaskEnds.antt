@@ -14,13 +14,13 @@ use Rattle.np_words.specs.declared.fault.ReadFault.TheVariants as text
 use Rattle.np_words.specs.Texts.{IsSpelled, is_memory}
 use Rattle.np_words.specs.Wide.{IsSyntaxFault, IsWideFault}
 use Rattle.np_problem.specs.declared.problem.Problem.{Problem}
-use Rattle.np_planner.specs.declared.answer.File.{File}
-use Rattle.np_planner.specs.declared.answer.File.TheVariants as file
-use Rattle.np_planner.specs.declared.answer.refusal.Refusal.TheVariants.{TooLong, Typing}
-use Rattle.np_planner.specs.declared.answer.Answer.{Answer}
-use Rattle.np_planner.specs.declared.answer.Answer.TheVariants.{CannotRead, Refused, OutOfMemory}
+use Rattle.np_answers.specs.declared.answer.File.{File}
+use Rattle.np_answers.specs.declared.answer.File.TheVariants as file
+use Rattle.np_answers.specs.declared.answer.refusal.Refusal.TheVariants.{TooLong, Typing}
+use Rattle.np_answers.specs.declared.answer.Answer.{Answer}
+use Rattle.np_answers.specs.declared.answer.Answer.TheVariants.{CannotRead, Refused, OutOfMemory}
 use Rattle.np_planner.specs.declared.inputs.TheConstants.{MOST_BYTES}
-use Rattle.np_planner.specs.Words.{Inputs}
+use Rattle.np_answers.specs.Words.{Inputs}
 use Rattle.np_planner.specs.Shelves.{IsRead}
 use Rattle.np_planner.specs.ReadSteps.{IsNotRead}
 use Rattle.np_planner.specs.TaskFiles.{IsWithoutValue, IsWithoutProblem, HoldsDomain, HoldsProblem, HoldsBoth, IsWithoutTask}

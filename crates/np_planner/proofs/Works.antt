@@ -10,7 +10,7 @@ use Rattle.np_first_text.specs.declared.syntax.Domain.{Domain}
 use Rattle.np_first_text.specs.declared.syntax.Problem.{Problem}
 use Rattle.np_first.specs.FlatOf.{flat_of}
 use Rattle.np_first.specs.Outcomes.{claim_after, IsTrueEnd, IsOutcomeOf}
-use Rattle.np_planner.specs.declared.answer.solve.SolveAnswer.{SolveAnswer}
+use Rattle.np_answers.specs.declared.answer.solve.SolveAnswer.{SolveAnswer}
 use Rattle.np_planner.specs.declared.solve.Work.{Work}
 use Rattle.np_planner.specs.SolveAnswers.{claim_of, IsTrueOfPair}
 use Rattle.np_planner.specs.SolveSteps.{AreActions, lines_of, answer_of, IsWorkOn}

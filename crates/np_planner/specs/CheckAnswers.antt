@@ -17,12 +17,12 @@ use Rattle.np_first_text.specs.declared.syntax.Problem.{Problem}
 use Rattle.np_first_text.specs.FirstForm.{SpellsPair}
 use Rattle.np_first_text.specs.TaskOf.{task_of}
 use Rattle.np_first.specs.FlatOf.{flat_of}
-use Rattle.np_planner.specs.declared.answer.check.CheckAnswer.{CheckAnswer}
-use Rattle.np_planner.specs.declared.answer.check.CheckAnswer.TheVariants.{Yes, No}
-use Rattle.np_planner.specs.declared.answer.check.Fault.{Fault}
-use Rattle.np_planner.specs.declared.answer.check.Fault.TheVariants.{ProofFails, Repeats, Unjustified, ClaimAbove}
+use Rattle.np_answers.specs.declared.answer.check.CheckAnswer.{CheckAnswer}
+use Rattle.np_answers.specs.declared.answer.check.CheckAnswer.TheVariants.{Yes, No}
+use Rattle.np_answers.specs.declared.answer.check.Fault.{Fault}
+use Rattle.np_answers.specs.declared.answer.check.Fault.TheVariants.{ProofFails, Repeats, Unjustified, ClaimAbove}
 use Rattle.np_planner.specs.declared.inputs.TheConstants.{MOST_BYTES}
-use Rattle.np_planner.specs.Words.{Check}
+use Rattle.np_answers.specs.Words.{Check}
 use Rattle.np_planner.specs.Shelves.{HoldsPair, HoldsCertificate}
 
 -- what a claim says of the plans of a task: none, of any length, costs less, or there is none

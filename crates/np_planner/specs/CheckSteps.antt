@@ -5,10 +5,10 @@ use Rattle.np_cert.specs.declared.certificate.Certificate.{Certificate}
 use Rattle.np_cert.specs.Text.{Spells, IsThin}
 use Rattle.np_cert.specs.Valid.{IsValid}
 use Rattle.np_check.specs.Verdicts.{IsVerdict}
-use Rattle.np_planner.specs.declared.answer.check.CheckAnswer.{CheckAnswer}
-use Rattle.np_planner.specs.declared.answer.check.CheckAnswer.TheVariants.{Yes, No}
-use Rattle.np_planner.specs.declared.answer.Answer.{Answer}
-use Rattle.np_planner.specs.declared.answer.Answer.TheVariants.{Refused, Checked, OutOfMemory}
+use Rattle.np_answers.specs.declared.answer.check.CheckAnswer.{CheckAnswer}
+use Rattle.np_answers.specs.declared.answer.check.CheckAnswer.TheVariants.{Yes, No}
+use Rattle.np_answers.specs.declared.answer.Answer.{Answer}
+use Rattle.np_answers.specs.declared.answer.Answer.TheVariants.{Refused, Checked, OutOfMemory}
 use Rattle.np_planner.specs.CheckAnswers.{verdict_of}
 use Rattle.np_planner.specs.RightAnswers.{IsCertificateReason}
 

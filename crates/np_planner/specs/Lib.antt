@@ -1,7 +1,5 @@
 pub mod CheckAnswers
 pub mod CheckSteps
-pub mod CommandSteps
-pub mod Output
 pub mod Promises
 pub mod ReadSteps
 pub mod RightAnswers
@@ -11,5 +9,3 @@ pub mod Shelves
 pub mod SolveAnswers
 pub mod SolveSteps
 pub mod TaskFiles
-pub mod Texts
-pub mod Words

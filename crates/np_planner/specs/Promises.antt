@@ -7,22 +7,22 @@ use Rattle.np_frac.specs.Fractions.{Fraction}
 use Rattle.np_cert.specs.declared.certificate.Limit.{Limit}
 use Rattle.np_run.specs.declared.answers.RunEnd.{RunEnd}
 use Rattle.np_run.specs.declared.answers.RunEnd.TheVariants.{Goal}
-use Rattle.np_planner.specs.declared.answer.File.{File}
-use Rattle.np_planner.specs.declared.answer.refusal.Refusal.{Refusal}
-use Rattle.np_planner.specs.declared.answer.solve.SolveAnswer.{SolveAnswer}
-use Rattle.np_planner.specs.declared.answer.solve.SolveAnswer.TheVariants.{Optimal, Unsolvable, Spent}
-use Rattle.np_planner.specs.declared.answer.check.CheckAnswer.{CheckAnswer}
-use Rattle.np_planner.specs.declared.answer.check.CheckAnswer.TheVariants.{Yes, No}
-use Rattle.np_planner.specs.declared.answer.check.Fault.{Fault}
-use Rattle.np_planner.specs.declared.answer.Answer.{Answer}
-use Rattle.np_planner.specs.declared.answer.Answer.TheVariants.{Usage, CannotRead, Refused, Solved, Checked, Ran, CannotWrite, OutOfMemory}
-use Rattle.np_planner.specs.Words.{Solve, Check, Run, Command, solving, checking, running, command_of}
+use Rattle.np_answers.specs.declared.answer.File.{File}
+use Rattle.np_answers.specs.declared.answer.refusal.Refusal.{Refusal}
+use Rattle.np_answers.specs.declared.answer.solve.SolveAnswer.{SolveAnswer}
+use Rattle.np_answers.specs.declared.answer.solve.SolveAnswer.TheVariants.{Optimal, Unsolvable, Spent}
+use Rattle.np_answers.specs.declared.answer.check.CheckAnswer.{CheckAnswer}
+use Rattle.np_answers.specs.declared.answer.check.CheckAnswer.TheVariants.{Yes, No}
+use Rattle.np_answers.specs.declared.answer.check.Fault.{Fault}
+use Rattle.np_answers.specs.declared.answer.Answer.{Answer}
+use Rattle.np_answers.specs.declared.answer.Answer.TheVariants.{Usage, CannotRead, Refused, Solved, Checked, Ran, CannotWrite, OutOfMemory}
+use Rattle.np_answers.specs.Words.{Solve, Check, Run, Command, solving, checking, running, command_of}
 use Rattle.np_planner.specs.SolveAnswers.{IsRightSolve, claim_of}
 use Rattle.np_planner.specs.CheckAnswers.{IsRightCheck, HoldsValid}
 use Rattle.np_planner.specs.RunAnswers.{IsRightRun}
 use Rattle.np_planner.specs.RightAnswers.{IsRight, IsRightTo}
-use Rattle.np_planner.specs.Texts.{text_of}
-use Rattle.np_planner.specs.Output.{IsWhole, IsCutOff, IsAnsweredBy}
+use Rattle.np_answers.specs.Texts.{text_of}
+use Rattle.np_answers.specs.Output.{IsWhole, IsCutOff, IsAnsweredBy}
 
 -- a call of the planner: the command that its words fit, and the shelf and the sink before and after it
 pub record Call : Type 0 where

@@ -2,10 +2,10 @@
 use Rattle.std.specs.Prelude.{◌≡◌, ℕ, List}
 use Rattle.np_io.specs.Seen.{SeenShelf}
 use Rattle.np_io.specs.Files.{IsLonger}
-use Rattle.np_planner.specs.declared.answer.File.{File}
-use Rattle.np_planner.specs.declared.answer.refusal.Refusal.TheVariants.{TooLong}
-use Rattle.np_planner.specs.declared.answer.Answer.{Answer}
-use Rattle.np_planner.specs.declared.answer.Answer.TheVariants.{CannotRead, Refused, OutOfMemory}
+use Rattle.np_answers.specs.declared.answer.File.{File}
+use Rattle.np_answers.specs.declared.answer.refusal.Refusal.TheVariants.{TooLong}
+use Rattle.np_answers.specs.declared.answer.Answer.{Answer}
+use Rattle.np_answers.specs.declared.answer.Answer.TheVariants.{CannotRead, Refused, OutOfMemory}
 use Rattle.np_planner.specs.Shelves.{ReadFailed}
 
 -- the answer for a file of at most so many bytes that can't be had

@@ -11,14 +11,14 @@ use Rattle.np_cert.specs.Text as certificate_text
 use Rattle.np_first_text.specs.declared.syntax.Domain.{Domain}
 use Rattle.np_first_text.specs.declared.syntax.Problem.{Problem}
 use Rattle.np_first_text.specs.FirstForm.{SpellNoPair}
-use Rattle.np_planner.specs.declared.answer.File.{File}
-use Rattle.np_planner.specs.declared.answer.File.TheVariants as file
-use Rattle.np_planner.specs.declared.answer.refusal.Refusal.{Refusal}
-use Rattle.np_planner.specs.declared.answer.refusal.Refusal.TheVariants.{TooLong, Syntax, PairNotBuilt, CertificateNotBuilt}
-use Rattle.np_planner.specs.declared.answer.Answer.{Answer}
-use Rattle.np_planner.specs.declared.answer.Answer.TheVariants.{Usage, CannotRead, Refused, Solved, Checked, CannotWrite, OutOfMemory}
+use Rattle.np_answers.specs.declared.answer.File.{File}
+use Rattle.np_answers.specs.declared.answer.File.TheVariants as file
+use Rattle.np_answers.specs.declared.answer.refusal.Refusal.{Refusal}
+use Rattle.np_answers.specs.declared.answer.refusal.Refusal.TheVariants.{TooLong, Syntax, PairNotBuilt, CertificateNotBuilt}
+use Rattle.np_answers.specs.declared.answer.Answer.{Answer}
+use Rattle.np_answers.specs.declared.answer.Answer.TheVariants.{Usage, CannotRead, Refused, Solved, Checked, CannotWrite, OutOfMemory}
 use Rattle.np_planner.specs.declared.inputs.TheConstants.{MOST_BYTES}
-use Rattle.np_planner.specs.Words.{Inputs, Solve, Check, Command, solving, checking, running}
+use Rattle.np_answers.specs.Words.{Inputs, Solve, Check, Command, solving, checking, running}
 use Rattle.np_planner.specs.Shelves.{WasRead, AreRead, HoldsPair, ReadFailed}
 use Rattle.np_planner.specs.SolveAnswers.{IsRightSolve, OnlyCertified, WasUnwritten}
 use Rattle.np_planner.specs.CheckAnswers.{IsRightCheck}

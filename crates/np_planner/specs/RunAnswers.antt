@@ -16,12 +16,12 @@ use Rattle.np_run.specs.declared.answers.RunEnd.{RunEnd}
 use Rattle.np_run.specs.declared.answers.RunFault.TheVariants.{Wide}
 use Rattle.np_run.specs.RunAnswers.{IsAnswer}
 use Rattle.np_run.specs.Taking.{outcome_of}
-use Rattle.np_planner.specs.declared.answer.File.TheVariants as file
-use Rattle.np_planner.specs.declared.answer.refusal.Refusal.{Refusal}
-use Rattle.np_planner.specs.declared.answer.refusal.Refusal.TheVariants.{TooLong, Syntax, NumberWide, StampOrder, UnknownStep, StepWide}
-use Rattle.np_planner.specs.declared.answer.Answer.{Answer}
-use Rattle.np_planner.specs.declared.answer.Answer.TheVariants.{CannotRead, Refused, Ran, OutOfMemory}
-use Rattle.np_planner.specs.Words.{Run}
+use Rattle.np_answers.specs.declared.answer.File.TheVariants as file
+use Rattle.np_answers.specs.declared.answer.refusal.Refusal.{Refusal}
+use Rattle.np_answers.specs.declared.answer.refusal.Refusal.TheVariants.{TooLong, Syntax, NumberWide, StampOrder, UnknownStep, StepWide}
+use Rattle.np_answers.specs.declared.answer.Answer.{Answer}
+use Rattle.np_answers.specs.declared.answer.Answer.TheVariants.{CannotRead, Refused, Ran, OutOfMemory}
+use Rattle.np_answers.specs.Words.{Run}
 use Rattle.np_planner.specs.Shelves.{ReadFailed}
 use Rattle.np_planner.specs.TaskFiles.{HoldsTask, HoldsSomeTask}
 

@@ -15,12 +15,12 @@ use Rattle.np_words.specs.declared.fault.ReadFault.{ReadFault}
 use Rattle.np_words.specs.declared.fault.ReadFault.TheVariants as text
 use Rattle.np_plan.specs.declared.fault.PlanFault.{PlanFault}
 use Rattle.np_plan.specs.declared.fault.PlanFault.TheVariants as plan
-use Rattle.np_planner.specs.declared.answer.File.{File}
-use Rattle.np_planner.specs.declared.answer.File.TheVariants as file
-use Rattle.np_planner.specs.declared.answer.refusal.Refusal.TheVariants.{TooLong, Syntax, NumberWide, Typing, StampOrder, UnknownStep}
-use Rattle.np_planner.specs.declared.answer.Answer.{Answer}
-use Rattle.np_planner.specs.declared.answer.Answer.TheVariants.{Refused, Ran, OutOfMemory}
-use Rattle.np_planner.specs.Words.{Inputs}
+use Rattle.np_answers.specs.declared.answer.File.{File}
+use Rattle.np_answers.specs.declared.answer.File.TheVariants as file
+use Rattle.np_answers.specs.declared.answer.refusal.Refusal.TheVariants.{TooLong, Syntax, NumberWide, Typing, StampOrder, UnknownStep}
+use Rattle.np_answers.specs.declared.answer.Answer.{Answer}
+use Rattle.np_answers.specs.declared.answer.Answer.TheVariants.{Refused, Ran, OutOfMemory}
+use Rattle.np_answers.specs.Words.{Inputs}
 use Rattle.np_planner.specs.TaskFiles.{IsUnspelled, IsWithoutValue, HoldsValue, HoldsBoth, HoldsTask, IsWithoutTask}
 use Rattle.np_planner.specs.RunAnswers.{IsRunOf, IsPlanReason}
 

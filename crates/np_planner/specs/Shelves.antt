@@ -12,7 +12,7 @@ use Rattle.np_first_text.specs.declared.syntax.Problem.{Problem}
 use Rattle.np_first_text.specs.FirstForm.{SpellsPair}
 use Rattle.np_first_text.specs.TaskOf.{task_of}
 use Rattle.np_planner.specs.declared.inputs.TheConstants.{MOST_BYTES}
-use Rattle.np_planner.specs.Words.{Inputs}
+use Rattle.np_answers.specs.Words.{Inputs}
 
 -- the name could be read: where it is told, these bytes are under it, and there are at most so many
 pub record IsRead (shelf : SeenShelf) (name bytes : List ℕ) : Type 0 where

@@ -12,11 +12,11 @@ use Rattle.np_first_text.specs.declared.syntax.Problem.{Problem}
 use Rattle.np_first_text.specs.TaskOf.{task_of}
 use Rattle.np_first.specs.FlatOf.{flat_of}
 use Rattle.np_first.specs.Solutions.{IsCheapest, IsSpent}
-use Rattle.np_planner.specs.declared.answer.File.{File}
-use Rattle.np_planner.specs.declared.answer.File.TheVariants as file
-use Rattle.np_planner.specs.declared.answer.solve.SolveAnswer.{SolveAnswer}
-use Rattle.np_planner.specs.declared.answer.solve.SolveAnswer.TheVariants.{Optimal, Unsolvable, Spent}
-use Rattle.np_planner.specs.Words.{Solve}
+use Rattle.np_answers.specs.declared.answer.File.{File}
+use Rattle.np_answers.specs.declared.answer.File.TheVariants as file
+use Rattle.np_answers.specs.declared.answer.solve.SolveAnswer.{SolveAnswer}
+use Rattle.np_answers.specs.declared.answer.solve.SolveAnswer.TheVariants.{Optimal, Unsolvable, Spent}
+use Rattle.np_answers.specs.Words.{Solve}
 use Rattle.np_planner.specs.Shelves.{HoldsPair, WriteFailed, IsFaultless, HasPutBoth, HasPutFirst}
 
 -- what the certificate claims that is put with an answer

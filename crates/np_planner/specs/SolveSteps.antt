@@ -9,14 +9,14 @@ use Rattle.np_first.specs.declared.breadth_first.End.{End}
 use Rattle.np_first.specs.declared.breadth_first.End.TheVariants.{Plan, NoPlan, Spent as SpentAt}
 use Rattle.np_first.specs.FlatOf.{flat_of}
 use Rattle.np_first.specs.PlanText.{plan_text}
-use Rattle.np_planner.specs.declared.answer.File.{File}
-use Rattle.np_planner.specs.declared.answer.File.TheVariants as file
-use Rattle.np_planner.specs.declared.answer.solve.SolveAnswer.{SolveAnswer}
-use Rattle.np_planner.specs.declared.answer.solve.SolveAnswer.TheVariants.{Optimal, Unsolvable, Spent}
-use Rattle.np_planner.specs.declared.answer.Answer.{Answer}
-use Rattle.np_planner.specs.declared.answer.Answer.TheVariants.{Solved, CannotWrite, OutOfMemory}
+use Rattle.np_answers.specs.declared.answer.File.{File}
+use Rattle.np_answers.specs.declared.answer.File.TheVariants as file
+use Rattle.np_answers.specs.declared.answer.solve.SolveAnswer.{SolveAnswer}
+use Rattle.np_answers.specs.declared.answer.solve.SolveAnswer.TheVariants.{Optimal, Unsolvable, Spent}
+use Rattle.np_answers.specs.declared.answer.Answer.{Answer}
+use Rattle.np_answers.specs.declared.answer.Answer.TheVariants.{Solved, CannotWrite, OutOfMemory}
 use Rattle.np_planner.specs.declared.solve.Work.{Work}
-use Rattle.np_planner.specs.Words.{Solve}
+use Rattle.np_answers.specs.Words.{Solve}
 use Rattle.np_planner.specs.Shelves.{IsFaultless, WriteFailed}
 use Rattle.np_planner.specs.SolveAnswers.{claim_of, IsTrueOfPair}
 

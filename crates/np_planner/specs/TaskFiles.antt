@@ -16,14 +16,14 @@ use Rattle.np_names.specs.declared.fault.TypeFault.{TypeFault}
 use Rattle.np_names.specs.declared.fault.TypeFault.TheVariants.{At}
 use Rattle.np_typing.specs.TaskOf.{task_of}
 use Rattle.np_typing.specs.Typing.{IsWellFormed, IsFirstFault}
-use Rattle.np_planner.specs.declared.answer.File.{File}
-use Rattle.np_planner.specs.declared.answer.File.TheVariants as file
-use Rattle.np_planner.specs.declared.answer.refusal.Refusal.{Refusal}
-use Rattle.np_planner.specs.declared.answer.refusal.Refusal.TheVariants.{TooLong, Syntax, NumberWide, Typing}
-use Rattle.np_planner.specs.declared.answer.Answer.{Answer}
-use Rattle.np_planner.specs.declared.answer.Answer.TheVariants.{CannotRead, Refused, OutOfMemory}
+use Rattle.np_answers.specs.declared.answer.File.{File}
+use Rattle.np_answers.specs.declared.answer.File.TheVariants as file
+use Rattle.np_answers.specs.declared.answer.refusal.Refusal.{Refusal}
+use Rattle.np_answers.specs.declared.answer.refusal.Refusal.TheVariants.{TooLong, Syntax, NumberWide, Typing}
+use Rattle.np_answers.specs.declared.answer.Answer.{Answer}
+use Rattle.np_answers.specs.declared.answer.Answer.TheVariants.{CannotRead, Refused, OutOfMemory}
 use Rattle.np_planner.specs.declared.inputs.TheConstants.{MOST_BYTES}
-use Rattle.np_planner.specs.Words.{Inputs}
+use Rattle.np_answers.specs.Words.{Inputs}
 use Rattle.np_planner.specs.Shelves.{IsRead, ReadFailed}
 
 -- ---- one file

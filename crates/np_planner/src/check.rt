@@ -1,15 +1,14 @@
 //! The command `check`.
 ghost use Rattle.std.specs.Prelude.{◌≡◌};
-ghost use Rattle.np_planner.specs.declared.answer.Answer.TheVariants as answer;
-ghost use Rattle.np_planner.specs.declared.answer.check.CheckAnswer.TheVariants as check_answer;
-ghost use Rattle.np_planner.specs.Words.{checking};
-ghost use Rattle.np_planner.specs.CommandSteps.{told_check};
+ghost use Rattle.np_answers.specs.declared.answer.Answer.TheVariants as answer;
+ghost use Rattle.np_answers.specs.declared.answer.check.CheckAnswer.TheVariants as check_answer;
+ghost use Rattle.np_answers.specs.Words.{checking};
+ghost use Rattle.np_answers.specs.CommandSteps.{told_check};
 ghost use Rattle.np_planner.specs.RightAnswers.{IsRightTo};
 ghost use Rattle.np_planner.specs.CheckSteps.{IsJudged};
 
-use crate::answer::{Answer, CheckAnswer, Fault, File, Refusal};
 use crate::inputs::{read_inputs, read_whole};
-use crate::words::Check;
+use np_answers::{Answer, Check, CheckAnswer, Fault, File, Refusal};
 use np_cert::{CertFault, read_certificate};
 use np_check::{Verdict, check_certificate};
 use np_flat::Flat;

@@ -1,15 +1,13 @@
 //! The top call.
 ghost use Rattle.std.specs.Prelude.{◌≤◌, map, string_bytes};
-ghost use Rattle.np_planner.specs.Words.{command_of};
+ghost use Rattle.np_answers.specs.Words.{command_of};
 ghost use Rattle.np_planner.specs.RightAnswers.{IsRight};
 ghost use Rattle.np_planner.specs.Promises.{call_of, IsAnswered, KeepsPromise, KeepsItsWord};
 
-use crate::answer::Answer;
 use crate::check::check;
 use crate::run::run;
-use crate::say::say;
 use crate::solve::solve;
-use crate::words::{Command, command_words};
+use np_answers::{Answer, Command, command_words, say};
 use np_io::{Shelf, Sink};
 use std::alloc::Global;
 

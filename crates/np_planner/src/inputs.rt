@@ -1,14 +1,13 @@
 //! The pair of files that a command reads first.
 ghost use Rattle.std.specs.Prelude.{◌≡◌, IfOk, IfErr, OnOk};
 ghost use Rattle.np_planner.specs.declared.inputs.TheConstants.{MOST_BYTES};
-ghost use Rattle.np_planner.specs.CommandSteps.{told_inputs};
+ghost use Rattle.np_answers.specs.CommandSteps.{told_inputs};
 ghost use Rattle.np_io.specs.Files.{IsHeld};
 ghost use Rattle.np_planner.specs.ReadSteps.{IsNotRead, IsNotFetched};
 ghost use Rattle.np_planner.specs.Shelves.{IsRead, AreRead, HoldsPair};
 ghost use Rattle.np_planner.specs.RightAnswers.{IsWithoutPair};
 
-use crate::answer::{Answer, File, Refusal};
-use crate::words::Inputs;
+use np_answers::{Answer, File, Inputs, Refusal};
 use np_first::{Pair, read_pair};
 use np_io::{Fetch, Shelf};
 use std::alloc::Global;

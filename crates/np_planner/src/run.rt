@@ -1,15 +1,14 @@
 //! The command `run`.
 ghost use Rattle.std.specs.Prelude.{◌≡◌, IfOk, IfErr};
-ghost use Rattle.np_planner.specs.Words.{running};
-ghost use Rattle.np_planner.specs.CommandSteps.{told_run};
+ghost use Rattle.np_answers.specs.Words.{running};
+ghost use Rattle.np_answers.specs.CommandSteps.{told_run};
 ghost use Rattle.np_planner.specs.RightAnswers.{IsRightTo};
 ghost use Rattle.np_planner.specs.RunAnswers.{SpellsPlan};
 ghost use Rattle.np_planner.specs.RunSteps.{IsNoPlan, IsRunBy, no_plan};
 
-use crate::answer::{Answer, File, Refusal};
 use crate::inputs::read_whole;
 use crate::task_files::held_task;
-use crate::words::Run;
+use np_answers::{Answer, File, Refusal, Run};
 use np_io::Shelf;
 use np_model::{Step, Task};
 use np_plan::{PlanFault, read_plan};

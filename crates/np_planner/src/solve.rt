@@ -1,15 +1,14 @@
 //! The command `solve`.
 ghost use Rattle.std.specs.Prelude.{◌≡◌, ◌≤◌, false, IfOk, IfErr, OnOk};
 ghost use Rattle.std.specs.Str.{bytes_eq};
-ghost use Rattle.np_planner.specs.declared.words.TheConstants.{MOST_NODES};
-ghost use Rattle.np_planner.specs.Words.{solving};
-ghost use Rattle.np_planner.specs.CommandSteps.{told_solve};
+ghost use Rattle.np_answers.specs.declared.words.TheConstants.{MOST_NODES};
+ghost use Rattle.np_answers.specs.Words.{solving};
+ghost use Rattle.np_answers.specs.CommandSteps.{told_solve};
 ghost use Rattle.np_planner.specs.RightAnswers.{IsRightTo};
 ghost use Rattle.np_planner.specs.SolveSteps.{AreActions, lines_of, answer_of, IsWorkOn, WasPut, IsNotPut, Concludes, Finishes};
 
-use crate::answer::{Answer, File, SolveAnswer};
 use crate::inputs::read_inputs;
-use crate::words::Solve;
+use np_answers::{Answer, File, Solve, SolveAnswer};
 use np_cert::print_certificate;
 use np_first::{End, Pair};
 use np_io::{Give, Shelf};

@@ -4,12 +4,11 @@ ghost use Rattle.np_syntax.specs.Domains.{IsDomain, domain_text, domain_marks};
 ghost use Rattle.np_problem.specs.ProblemText.{IsProblem};
 ghost use Rattle.np_problem.specs.Problems.{problem_text, problem_marks};
 ghost use Rattle.np_typing.specs.Typing.{IsSpelledPair};
-ghost use Rattle.np_planner.specs.CommandSteps.{told_inputs};
+ghost use Rattle.np_answers.specs.CommandSteps.{told_inputs};
 ghost use Rattle.np_planner.specs.RunSteps.{unspelled, Reads, Finds, FindsBoth, Types, FindsTask};
 
-use crate::answer::{Answer, File, Refusal};
 use crate::inputs::read;
-use crate::words::Inputs;
+use np_answers::{Answer, File, Inputs, Refusal};
 use np_io::Shelf;
 use np_model::Task;
 use np_problem::{Problem, read_problem};

@@ -1,7 +1,7 @@
 //! The program, as it answers its words, over a shelf and a sink in memory.
 use crate::trial::steps_shelf;
 use np_io::MemorySink;
-use np_planner::program;
+use np_program::program;
 use std::env::FillError;
 use std::process::Abort;
 use std::rt::Env;

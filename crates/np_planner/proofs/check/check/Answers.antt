@@ -1,5 +1,5 @@
 use Rattle.std.proofs.Common.{ℕ, List, inr, subst}
-use Rattle.np_planner.specs.CommandSteps.{told_check}
+use Rattle.np_answers.specs.CommandSteps.{told_check}
 use Rattle.np_planner.specs.CheckSteps.{IsJudged}
 use Rattle.np_planner.proofs.CheckEnds.{judged}
 use Rattle.np_planner.proofs.check.check.Goals as goal

@@ -1,5 +1,5 @@
 use Rattle.std.proofs.Common.{ℕ, List, inr, subst}
-use Rattle.np_planner.specs.CommandSteps.{told_run}
+use Rattle.np_answers.specs.CommandSteps.{told_run}
 use Rattle.np_planner.specs.RunSteps.{IsRunBy}
 use Rattle.np_planner.proofs.RunEnds.{ran}
 use Rattle.np_planner.proofs.run.run.Goals as goal

@@ -1,5 +1,5 @@
 use Rattle.std.proofs.Common.{inr}
-use Rattle.np_planner.specs.CommandSteps.{told_solve}
+use Rattle.np_answers.specs.CommandSteps.{told_solve}
 use Rattle.np_planner.proofs.SolveEnds.{finished}
 use Rattle.np_planner.proofs.solve.solve.Goals as goal
 

@@ -1,0 +1,4 @@
+pub mod CommandSteps
+pub mod Output
+pub mod Texts
+pub mod Words

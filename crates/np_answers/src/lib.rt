@@ -1,0 +1,11 @@
+//! What the planner is told and what it answers: the words of its commands, its answers with their texts and statuses, and how an
+//! answer is given.
+#![tactic(auto)]
+
+mod answer;
+mod output;
+mod words;
+
+pub use answer::{Answer, CheckAnswer, Fault, File, Refusal, SolveAnswer};
+pub use output::say;
+pub use words::{Check, Command, Inputs, MOST_NODES, Run, Solve, command_words};

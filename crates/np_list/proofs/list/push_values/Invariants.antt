@@ -1,0 +1,10 @@
+use Rattle.std.proofs.Common.{string_bytes, ◌≡◌, ◌++◌, take}
+use Rattle.std.specs.Prelude.{slice_get}
+use Rattle.std.specs.List.{enumerate_from, flat_map}
+use Rattle.np_list.specs.ListText.{value_line}
+use Rattle.np_list.proofs.list.push_values.Given as goal
+
+abbrev pub invariant-loop-number : goal.invariant-loop-number
+invariant-loop-number l =
+    string_bytes l.text
+    ≡ string_bytes l.initial.text ++ flat_map (λ p. value_line l.task (slice_get l.parts.start.values p.0) p.0 p.1) (enumerate_from 0 (take l.number l.parts.values))

@@ -1,7 +1,0 @@
-use Rattle.std.proofs.Common.{◌≡◌, ◌≤◌, ◌^◌, ◌<◌, drop}
-use Rattle.np_planner.specs.Words.{number_from}
-use Rattle.np_planner.proofs.words.nodes.Given as goal
-
-abbrev pub invariant-loop-byte : goal.invariant-loop-byte
-invariant-loop-byte l =
-    (l.nodes ≤ 2 ^ 24) × (number_from 0 l.word ≡ number_from l.nodes (drop l.byte-index l.word)) × (0 < l.byte-index → 1 ≤ l.nodes)
