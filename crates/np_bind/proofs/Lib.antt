@@ -1,0 +1,17 @@
+pub mod Early
+pub mod Trying
+pub mod Counts
+pub mod Zeros
+pub mod LeftConditions
+pub mod NetEffects
+pub mod StepsTaken
+pub mod Starts
+pub mod Enumeration
+pub mod KeptSteps
+pub mod TriedOnce
+pub mod SameSteps
+pub mod SameRuns
+pub mod Proper
+pub mod KeptOnce
+pub mod BoundIsBound
+pub mod LookUps

@@ -1,0 +1,10 @@
+pub mod BoundTasks
+pub mod Grounding
+pub mod BoundPlans
+pub mod Bindings
+pub mod Binding
+pub mod Answers
+pub mod Laws
+pub mod Known
+pub mod Looking
+pub mod Trying
