@@ -15,7 +15,7 @@ use Rattle.np_model.specs.Conditions.{compares}
 use Rattle.np_model.specs.Values.{negated}
 use Rattle.np_linear.specs.declared.linear.Linear.{Linear}
 use Rattle.np_linear.specs.Linears.{zero, terms_value, linear_value}
-use Rattle.np_scale.specs.Forms.{negated_sum, sides_of}
+use Rattle.np_scale.specs.Forms.{negated_sum, inequalities_of}
 use Rattle.np_scale.proofs.Forms.{side_holds}
 
 -- ---- the value of a negated sum
@@ -59,7 +59,7 @@ equal_is ordering.Greater = refl
 other_way : (v : Term → Fraction) (l : Linear) → ordering_reverse (fraction_cmp (linear_value v l) zero) ≡ fraction_cmp (linear_value v (negated_sum l)) zero
 other_way v l = sym (ap (λ x. fraction_cmp x zero) (negated_value v l) ∙ negated_cmp (linear_value v l))
 
-pub sides_say : (v : Term → Fraction) (op : Op) (l : Linear) → compares op (linear_value v l) zero ≡ list_all (side_holds v) (sides_of op l)
+pub sides_say : (v : Term → Fraction) (op : Op) (l : Linear) → compares op (linear_value v l) zero ≡ list_all (side_holds v) (inequalities_of op l)
 sides_say v AtLeast l = sym (and-true (is_ge (fraction_cmp (linear_value v l) zero)))
 sides_say v Greater l = sym (and-true (is_gt (fraction_cmp (linear_value v l) zero)))
 sides_say v AtMost l = at_most_is (fraction_cmp (linear_value v l) zero) ∙ ap (λ o. is_ge o && true) (other_way v l)

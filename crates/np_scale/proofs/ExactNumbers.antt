@@ -13,8 +13,8 @@ use Rattle.np_bind.specs.declared.bound.BoundStep.{BoundStep}
 use Rattle.np_bind.specs.declared.bound.BoundParts.{BoundParts}
 use Rattle.np_bind.specs.BoundTasks.{IsBound}
 use Rattle.np_bind.specs.Grounding.{number_on}
-use Rattle.np_scale.specs.Tables.{atoms_in, terms_in, conditions_of, facts_of, terms_of}
-use Rattle.np_scale.specs.Wholes.{unit_of, scaled}
+use Rattle.np_scale.specs.Tables.{atoms_in, terms_in, conditions_of, facts_of, values_of}
+use Rattle.np_scale.specs.Wholes.{unit_of, scaled_number}
 use Rattle.np_scale.specs.FlatOf.{numbers_of, flat_with, flat_of}
 use Rattle.np_scale.specs.Scaling.{scale_task}
 use Rattle.np_scale.specs.Same.{StandsFor}
@@ -46,8 +46,8 @@ whole_cost x sign one =
 
 module _ (bound : BoundParts) (flat : Parts) (is : IsBound bound) (scales : scale_task bound ≡ Ok flat) where
   -- a term at a place of the values is one of them
-  numbered : (k : ℕ) (t : Term) → slice_get (terms_of bound) k ≡ Some t → list_any (same_term t) (terms_of bound) ≡ true
-  numbered k t at = there_at same_term same_term-Decides (terms_of bound) k t at
+  numbered : (k : ℕ) (t : Term) → slice_get (values_of bound) k ≡ Some t → list_any (same_term t) (values_of bound) ≡ true
+  numbered k t at = there_at same_term same_term-Decides (values_of bound) k t at
 
   pub exact_numbers : HasExactNumbers (numbers_of bound) bound
   exact_numbers = record {
@@ -59,11 +59,11 @@ module _ (bound : BoundParts) (flat : Parts) (is : IsBound bound) (scales : scal
     starts = λ k t at. start_whole bound t (numbered k t at);
     changes = λ i b from k t at.
         each_at
-        (λ (x : BoundStep). (u : Term) → list_any (same_term u) (terms_of bound) ≡ true
-        → whole (scaled (unit_of bound) (number_on x.changes u)) ≡ times (whole (pos (unit_of bound))) (number_on x.changes u))
+        (λ (x : BoundStep). (u : Term) → list_any (same_term u) (values_of bound) ≡ true
+        → whole (scaled_number (unit_of bound) (number_on x.changes u)) ≡ times (whole (pos (unit_of bound))) (number_on x.changes u))
         bound.steps (changes_whole bound) i b from t (numbered k t at);
     costs = λ i b at.
-        let fits = each_at (IsFitting (facts_of bound) (terms_of bound) (unit_of bound)) bound.steps (scaled_task bound flat scales).within.steps i b at in
+        let fits = each_at (IsFitting (facts_of bound) (values_of bound) (unit_of bound)) bound.steps (scaled_task bound flat scales).within.steps i b at in
         whole_cost b.cost fits.cost_sign fits.cost_whole;
     agree = λ s f stands. conditions_agree bound is s f (subst (λ (x : Parts). StandsFor x s f) (sym (flat_of_is bound)) stands);
   }

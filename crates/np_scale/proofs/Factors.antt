@@ -14,7 +14,8 @@ use Rattle.np_frac.specs.Ring.{nat, mul, neg, ring}
 use Rattle.np_frac.specs.Laws.{den_of, over_equal, over_parts}
 use Rattle.np_frac.specs.Field.{frac, int, product, field, amount_is, whole_num, whole_den, whole_times, times_comm, times-one}
 use Rattle.np_frac.specs.Quotients.{times_reciprocal, one_factor, made_whole}
-use Rattle.np_scale.specs.Wholes.{lcm_of, size_of, factor_of}
+use Rattle.np_scale.specs.Code.{sign_of}
+use Rattle.np_scale.specs.Wholes.{lcm_of, absolute, factor_of}
 use Rattle.np_scale.specs.Laws.{FactorMakesWhole}
 use Rattle.np_scale.proofs.Every.{each_weaker, each_unmap, each_map, each_both}
 use Rattle.np_scale.proofs.Multiples.{each_divides, least_of_all, lcm_of_pos}
@@ -23,18 +24,20 @@ use Rattle.np_scale.proofs.Positive.{over_above, times_above, whole_above, recip
 -- ---- the sign of a fraction
 
 -- 1 or -1, and the size is so many times the fraction
-record HasSign (a : Fraction) : Type 0 where
-  sign : ℤ
-  square : sign *ℤ sign ≡ pos 1
-  one : unsigned_abs sign ≡ 1
-  size : size_of a ≡ times (whole sign) a
+pub record HasSign (a : Fraction) : Type 0 where
+  pub sign : ℤ
+  pub is : sign ≡ sign_of a.num
+  pub square : sign *ℤ sign ≡ pos 1
+  pub one : unsigned_abs sign ≡ 1
+  pub size : absolute a ≡ times (whole sign) a
 
-has_sign : (a : Fraction) → HasSign a
+pub has_sign : (a : Fraction) → HasSign a
 has_sign a = by a.num refl
   where
     by : (n : ℤ) → a.num ≡ n → HasSign a
     by (pos m) e = record {
       sign = pos 1;
+      is = ap sign_of (sym e);
       square = refl;
       one = refl;
       size =
@@ -43,6 +46,7 @@ has_sign a = by a.num refl
     }
     by (negsuc m) e = record {
       sign = negsuc 0;
+      is = ap sign_of (sym e);
       square = refl;
       one = refl;
       size =
@@ -54,7 +58,7 @@ has_sign a = by a.num refl
     }
 
 -- the size is above 0
-size_above : (a : Fraction) → is_zero a ≡ false → pos 0 <ℤ (size_of a).num
+size_above : (a : Fraction) → is_zero a ≡ false → pos 0 <ℤ (absolute a).num
 size_above a some = over_above (pos (unsigned_abs a.num)) a.den (den_of a) (by a.num some)
   where
     by : (n : ℤ) → int_eq n (pos 0) ≡ false → pos 0 <ℤ pos (unsigned_abs n)
@@ -64,12 +68,12 @@ exchanged : (s r a : Fraction) → times (times s r) (times s a) ≡ times (time
 exchanged s r a = field (product (product (frac s) (frac r)) (product (frac s) (frac a))) (product (product (frac s) (frac s)) (product (frac a) (frac r))) (omega arith)
 
 -- 1 over the size is so many times 1 over the fraction
-over_size : (a : Fraction) (h : HasSign a) → is_zero a ≡ false → reciprocal (size_of a) ≡ times (whole h.sign) (reciprocal a)
+over_size : (a : Fraction) (h : HasSign a) → is_zero a ≡ false → reciprocal (absolute a) ≡ times (whole h.sign) (reciprocal a)
 over_size a h some =
-    sym (times-one (reciprocal (size_of a))) ∙ times_comm (reciprocal (size_of a)) (whole (pos 1))
-    ∙ one_factor (times (whole h.sign) (reciprocal a)) (size_of a) (whole (pos 1)) (above_some (size_of a) (size_above a some)) together
+    sym (times-one (reciprocal (absolute a))) ∙ times_comm (reciprocal (absolute a)) (whole (pos 1))
+    ∙ one_factor (times (whole h.sign) (reciprocal a)) (absolute a) (whole (pos 1)) (above_some (absolute a) (size_above a some)) together
   where
-    together : whole (pos 1) ≡ times (times (whole h.sign) (reciprocal a)) (size_of a)
+    together : whole (pos 1) ≡ times (times (whole h.sign) (reciprocal a)) (absolute a)
     together =
         sym (times-one (whole (pos 1)))
         ∙ ap (λ x. times (whole (pos 1)) x) (sym (times_reciprocal a some))
@@ -94,10 +98,10 @@ abbrev pub multiple_of : Fraction → List Fraction → ℕ
 multiple_of a more = lcm_of (ratio_dens a (a ∷ more))
 
 -- such a ratio times a multiple of its denominator
-abbrev cleared : ℕ → Fraction → ℤ
+abbrev pub cleared : ℕ → Fraction → ℤ
 cleared m q = q.num *ℤ pos (m / q.den)
 
-factor_times : (a : Fraction) (more : List Fraction) (h : HasSign a) → is_zero a ≡ false → (b : Fraction) → (ratio_to a b).den ∣ multiple_of a more
+pub factor_times : (a : Fraction) (more : List Fraction) (h : HasSign a) → is_zero a ≡ false → (b : Fraction) → (ratio_to a b).den ∣ multiple_of a more
     → times (factor_of (a ∷ more)) b ≡ whole (h.sign *ℤ cleared (multiple_of a more) (ratio_to a b))
 factor_times a more h some b divides =
     let m : ℕ = multiple_of a more in
@@ -106,16 +110,16 @@ factor_times a more h some b divides =
     ∙ ap (times (whole h.sign)) (sym (made_whole (ratio_to a b) m divides))
     ∙ whole_times h.sign (cleared m (ratio_to a b))
 
-dens_above : (a : Fraction) (bs : List Fraction) → AllByRecursion (λ n. 0 < n) (ratio_dens a bs)
+pub dens_above : (a : Fraction) (bs : List Fraction) → AllByRecursion (λ n. 0 < n) (ratio_dens a bs)
 dens_above a [] = tt
 dens_above a (b ∷ bs) = (den_of (ratio_to a b), dens_above a bs)
 
 -- each ratio's denominator divides the multiple
-ratios_divide : (a : Fraction) (bs : List Fraction) → AllByRecursion (λ b. (ratio_to a b).den ∣ lcm_of (ratio_dens a bs)) bs
+pub ratios_divide : (a : Fraction) (bs : List Fraction) → AllByRecursion (λ b. (ratio_to a b).den ∣ lcm_of (ratio_dens a bs)) bs
 ratios_divide a bs = each_unmap (λ n. n ∣ lcm_of (ratio_dens a bs)) (λ b. (ratio_to a b).den) bs (each_divides (ratio_dens a bs))
 
 -- the size of such a whole number
-size_cleared : (s : ℤ) (m : ℕ) (q : Fraction) → unsigned_abs s ≡ 1 → unsigned_abs (s *ℤ cleared m q) ≡ unsigned_abs q.num * (m / q.den)
+pub size_cleared : (s : ℤ) (m : ℕ) (q : Fraction) → unsigned_abs s ≡ 1 → unsigned_abs (s *ℤ cleared m q) ≡ unsigned_abs q.num * (m / q.den)
 size_cleared s m q one =
     unsigned_abs-mul s (cleared m q) ∙ ap (λ n. n * unsigned_abs (cleared m q)) one ∙ one-mul (unsigned_abs (cleared m q)) ∙ unsigned_abs-mul q.num (pos (m / q.den))
 
@@ -148,7 +152,7 @@ only_one g m above h j =
     eq_of_mul-eq-mul_right m above g 1 (mul_comm g m ∙ ap (λ n. n * g) (sym same) ∙ again ∙ sym (one-mul m))
 
 -- the first ratio is 1, so the first whole number is the multiple in size
-first_cleared : (m : ℕ) (q : Fraction) → q ≡ whole (pos 1) → unsigned_abs q.num * (m / q.den) ≡ m
+pub first_cleared : (m : ℕ) (q : Fraction) → q ≡ whole (pos 1) → unsigned_abs q.num * (m / q.den) ≡ m
 first_cleared m q e =
     ap (λ (x : Fraction). unsigned_abs x.num * (m / x.den)) e ∙ ap (λ z. unsigned_abs z * (m / (whole (pos 1)).den)) (whole_num (pos 1)) ∙ ap (λ d. 1 * (m / d)) (whole_den (pos 1))
     ∙ one-mul (m / 1) ∙ div-one m
@@ -156,9 +160,9 @@ first_cleared m q e =
 -- the factor is above 0
 pub factor_above : (a : Fraction) (more : List Fraction) → is_zero a ≡ false → pos 0 <ℤ (factor_of (a ∷ more)).num
 factor_above a more some =
-    times_above (whole (pos (multiple_of a more))) (reciprocal (size_of a))
+    times_above (whole (pos (multiple_of a more))) (reciprocal (absolute a))
     (whole_above (multiple_of a more) (lcm_of_pos (ratio_dens a (a ∷ more)) (dens_above a (a ∷ more))))
-    (reciprocal_above (size_of a) (size_above a some))
+    (reciprocal_above (absolute a) (size_above a some))
 
 pub factor_makes_whole : FactorMakesWhole
 factor_makes_whole a more others = record {

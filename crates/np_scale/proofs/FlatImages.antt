@@ -37,9 +37,9 @@ use Rattle.np_bind.specs.Grounding.{number_on}
 use Rattle.np_bind.specs.BoundPlans.{bound_start, is_bound_goal}
 use Rattle.np_scale.specs.Same.{StandsFor}
 use Rattle.np_scale.specs.Tables.{number_of, terms_in, conditions_of}
-use Rattle.np_scale.specs.Wholes.{scaled}
+use Rattle.np_scale.specs.Wholes.{scaled_number}
 use Rattle.np_scale.specs.Forms.{subgoals_in}
-use Rattle.np_scale.specs.FlatOf.{Numbers, fact_numbers, changes_from, flat_step, flat_start, flat_with}
+use Rattle.np_scale.specs.FlatOf.{FlatTables, fact_numbers, changes_from, flat_step, flat_start, flat_with}
 use Rattle.np_scale.proofs.Every.{each_weaker, each_map, each_flat_from, each_all, each_at}
 use Rattle.np_scale.proofs.Once.{number_names, number_at, there_at}
 use Rattle.np_scale.proofs.Readings.{IsFound, conditions_found, of_steps, of_goal}
@@ -47,14 +47,14 @@ use Rattle.np_scale.proofs.SubgoalNumbers.{AreListed, Agrees, hold_by_number}
 use Rattle.np_scale.proofs.Images.{IsImage}
 
 -- what tables, the unit and limits give: numbers name what they stand for, and scaled numbers are exact
-pub record HasExactNumbers (n : Numbers) (bound : BoundParts) : Type 0 where
+pub record HasExactNumbers (n : FlatTables) (bound : BoundParts) : Type 0 where
   pub flat : IsFlat (flat_with n bound)
   pub facts : AreDistinct n.facts
   pub listed : AllByRecursion (λ c. AreListed n.subgoals (subgoals_in n.facts n.terms n.unit c)) (conditions_of bound)
   pub there : (k : ℕ) (t : Term) → slice_get n.terms k ≡ Some t → HasValue bound.values t
-  pub starts : (k : ℕ) (t : Term) → slice_get n.terms k ≡ Some t → whole (scaled n.unit (number_on bound.values t)) ≡ times (whole (pos n.unit)) (number_on bound.values t)
+  pub starts : (k : ℕ) (t : Term) → slice_get n.terms k ≡ Some t → whole (scaled_number n.unit (number_on bound.values t)) ≡ times (whole (pos n.unit)) (number_on bound.values t)
   pub changes : (i : ℕ) (b : BoundStep) → slice_get bound.steps i ≡ Some b → (k : ℕ) (t : Term) → slice_get n.terms k ≡ Some t
-      → whole (scaled n.unit (number_on b.changes t)) ≡ times (whole (pos n.unit)) (number_on b.changes t)
+      → whole (scaled_number n.unit (number_on b.changes t)) ≡ times (whole (pos n.unit)) (number_on b.changes t)
   pub costs : (i : ℕ) (b : BoundStep) → slice_get bound.steps i ≡ Some b → whole (pos (unsigned_abs b.cost.num)) ≡ b.cost
   pub agree : (s : State) (f : FlatState) → StandsFor (flat_with n bound) s f → AllByRecursion (Agrees n.facts n.terms n.unit s f) (conditions_of bound)
 
@@ -87,7 +87,7 @@ numbers_have facts (x ∷ atoms) p a apart at = by (is_among facts x) refl (numb
         rest
     by false is rest = rest ∙ ap (λ b. b || is_among atoms a) (sym (other is))
 
-pub fact_numbers_have : (n : Numbers) (atoms : List model.Atom) (p : ℕ) (a : model.Atom) → AreDistinct n.facts → slice_get n.facts p ≡ Some a → has (fact_numbers n atoms) p ≡ is_among atoms a
+pub fact_numbers_have : (n : FlatTables) (atoms : List model.Atom) (p : ℕ) (a : model.Atom) → AreDistinct n.facts → slice_get n.facts p ≡ Some a → has (fact_numbers n atoms) p ≡ is_among atoms a
 fact_numbers_have n atoms p a apart at =
     let ns : List ℕ = map (number_of same_atom n.facts) (filter (is_among n.facts) atoms) in
     has_put_all ns [] p ∙ or-false (has ns p) ∙ numbers_have n.facts atoms p a apart at
@@ -95,7 +95,7 @@ fact_numbers_have n atoms p a apart at =
 -- ---- values
 
 -- a number that is 0 is 0 also when it is scaled
-scaled_zero : (unit : ℕ) (x : Fraction) → is_zero x ≡ true → scaled unit x ≡ pos 0
+pub scaled_zero : (unit : ℕ) (x : Fraction) → is_zero x ≡ true → scaled_number unit x ≡ pos 0
 scaled_zero unit x e = ap (λ (y : Fraction). (times (whole (pos unit)) y).num) (zero_is x e) ∙ ap (λ (y : Fraction). y.num) (times_zero (whole (pos unit))) ∙ whole_num (pos 0)
 
 -- the changes from a number on leave the values before it as they are
@@ -104,55 +104,55 @@ before_kept unit k changes [] xs m less = refl
 before_kept unit k changes (t ∷ ts) xs m less = by (is_zero (number_on changes t)) (λ ys. before_kept unit (suc k) changes ts ys m (omega arith))
   where
     by : (c : Bool) → ((ys : List ℤ) → value_at (all_changed (changes_from unit (suc k) changes ts) ys) m ≡ value_at ys m)
-        → value_at (all_changed (if c then changes_from unit (suc k) changes ts else ((k, scaled unit (number_on changes t)) ∷ changes_from unit (suc k) changes ts)) xs) m ≡ value_at xs m
+        → value_at (all_changed (if c then changes_from unit (suc k) changes ts else ((k, scaled_number unit (number_on changes t)) ∷ changes_from unit (suc k) changes ts)) xs) m ≡ value_at xs m
     by true later = later xs
     by false later =
-        later (changed xs (k, scaled unit (number_on changes t)))
-        ∙ get_or-set_other xs k m (value_at xs k +ℤ scaled unit (number_on changes t)) (pos 0) (omega arith)
+        later (changed xs (k, scaled_number unit (number_on changes t)))
+        ∙ get_or-set_other xs k m (value_at xs k +ℤ scaled_number unit (number_on changes t)) (pos 0) (omega arith)
 
 plus_zero : (v : ℤ) → v ≡ v +ℤ pos 0
 plus_zero v = omega (arith, ints)
 
 -- the value of a term grows by the scaled change on it
 pub value_changed : (unit k : ℕ) (changes : List (Term × Fraction)) (ts : List Term) (xs : List ℤ) (j m : ℕ) (t : Term) → slice_get ts j ≡ Some t → m ≡ k + j → m < length xs
-    → value_at (all_changed (changes_from unit k changes ts) xs) m ≡ value_at xs m +ℤ scaled unit (number_on changes t)
+    → value_at (all_changed (changes_from unit k changes ts) xs) m ≡ value_at xs m +ℤ scaled_number unit (number_on changes t)
 value_changed unit k changes [] xs j m t at is within = absurd (none-some t at)
 value_changed unit k changes (u ∷ ts) xs zero m t at is within =
-    subst (λ w. value_at (all_changed (changes_from unit k changes (u ∷ ts)) xs) m ≡ value_at xs m +ℤ scaled unit (number_on changes w)) (same_Some u t at)
+    subst (λ w. value_at (all_changed (changes_from unit k changes (u ∷ ts)) xs) m ≡ value_at xs m +ℤ scaled_number unit (number_on changes w)) (same_Some u t at)
     (by (is_zero (number_on changes u)) refl)
   where
     here : m ≡ k
     here = omega arith
 
     by : (c : Bool) → is_zero (number_on changes u) ≡ c
-        → value_at (all_changed (if c then changes_from unit (suc k) changes ts else ((k, scaled unit (number_on changes u)) ∷ changes_from unit (suc k) changes ts)) xs) m
-        ≡ value_at xs m +ℤ scaled unit (number_on changes u)
+        → value_at (all_changed (if c then changes_from unit (suc k) changes ts else ((k, scaled_number unit (number_on changes u)) ∷ changes_from unit (suc k) changes ts)) xs) m
+        ≡ value_at xs m +ℤ scaled_number unit (number_on changes u)
     by true e =
         before_kept unit (suc k) changes ts xs m (omega arith)
         ∙ plus_zero (value_at xs m)
         ∙ ap (λ z. value_at xs m +ℤ z) (sym (scaled_zero unit (number_on changes u) e))
     by false e =
-        before_kept unit (suc k) changes ts (changed xs (k, scaled unit (number_on changes u))) m (omega arith)
-        ∙ subst (λ j. value_at (changed xs (j, scaled unit (number_on changes u))) m ≡ value_at xs m +ℤ scaled unit (number_on changes u)) here
-        (get_or-set_same xs m (value_at xs m +ℤ scaled unit (number_on changes u)) (pos 0) within)
+        before_kept unit (suc k) changes ts (changed xs (k, scaled_number unit (number_on changes u))) m (omega arith)
+        ∙ subst (λ j. value_at (changed xs (j, scaled_number unit (number_on changes u))) m ≡ value_at xs m +ℤ scaled_number unit (number_on changes u)) here
+        (get_or-set_same xs m (value_at xs m +ℤ scaled_number unit (number_on changes u)) (pos 0) within)
 value_changed unit k changes (u ∷ ts) xs (suc j) m t at is within =
     by (is_zero (number_on changes u)) (λ ys long. value_changed unit (suc k) changes ts ys j m t at (omega arith) long)
   where
-    by : (c : Bool) → ((ys : List ℤ) → m < length ys → value_at (all_changed (changes_from unit (suc k) changes ts) ys) m ≡ value_at ys m +ℤ scaled unit (number_on changes t))
-        → value_at (all_changed (if c then changes_from unit (suc k) changes ts else ((k, scaled unit (number_on changes u)) ∷ changes_from unit (suc k) changes ts)) xs) m
-        ≡ value_at xs m +ℤ scaled unit (number_on changes t)
+    by : (c : Bool) → ((ys : List ℤ) → m < length ys → value_at (all_changed (changes_from unit (suc k) changes ts) ys) m ≡ value_at ys m +ℤ scaled_number unit (number_on changes t))
+        → value_at (all_changed (if c then changes_from unit (suc k) changes ts else ((k, scaled_number unit (number_on changes u)) ∷ changes_from unit (suc k) changes ts)) xs) m
+        ≡ value_at xs m +ℤ scaled_number unit (number_on changes t)
     by true later = later xs within
     by false later =
-        let value : ℤ = value_at xs k +ℤ scaled unit (number_on changes u) in
-        later (changed xs (k, scaled unit (number_on changes u))) (subst (λ l. m < l) (sym (length-set xs k value)) within)
-        ∙ ap (λ z. z +ℤ scaled unit (number_on changes t)) (get_or-set_other xs k m value (pos 0) (omega arith))
+        let value : ℤ = value_at xs k +ℤ scaled_number unit (number_on changes u) in
+        later (changed xs (k, scaled_number unit (number_on changes u))) (subst (λ l. m < l) (sym (length-set xs k value)) within)
+        ∙ ap (λ z. z +ℤ scaled_number unit (number_on changes t)) (get_or-set_other xs k m value (pos 0) (omega arith))
 
 -- the scaled start value of a term is at its number
 start_value : (unit : ℕ) (values : List (Term × Fraction)) (ts : List Term) (k : ℕ) (t : Term) → slice_get ts k ≡ Some t
-    → value_at (map (λ u. scaled unit (number_on values u)) ts) k ≡ scaled unit (number_on values t)
+    → value_at (map (λ u. scaled_number unit (number_on values u)) ts) k ≡ scaled_number unit (number_on values t)
 start_value unit values ts k t at =
-    get_or-map (λ u. scaled unit (number_on values u)) ts k t (pos 0) (slice_get_within ts k t at)
-    ∙ ap (λ u. scaled unit (number_on values u)) (get_or_from_slice_get ts k t t at)
+    get_or-map (λ u. scaled_number unit (number_on values u)) ts k t (pos 0) (slice_get_within ts k t at)
+    ∙ ap (λ u. scaled_number unit (number_on values u)) (get_or_from_slice_get ts k t t at)
 
 -- a value that is there is the one that is read
 is_read : (o : Option Fraction) → IsTrue (is_some o) → o ≡ Some (option_map_or (λ x. x) o zero_number)
@@ -181,7 +181,7 @@ read_has_value bound t h there =
 each_need : (P : BoundCond → Type 0) (bound : BoundParts) (i : ℕ) (b : BoundStep) → AllByRecursion P (conditions_of bound) → slice_get bound.steps i ≡ Some b → AllByRecursion P b.needs
 each_need P bound i b all at = each_at (λ (x : BoundStep). AllByRecursion P x.needs) bound.steps (of_steps P bound all) i b at
 
-module _ (n : Numbers) (bound : BoundParts) (h : HasExactNumbers n bound) where
+module _ (n : FlatTables) (bound : BoundParts) (h : HasExactNumbers n bound) where
   -- the flat start stands for the start
   pub start_stands : StandsFor (flat_with n bound) (bound_start bound) (flat_start n bound)
   start_stands = record {
@@ -209,7 +209,7 @@ module _ (n : Numbers) (bound : BoundParts) (h : HasExactNumbers n bound) where
         ∙ has_kept (λ x. not (is_among b.adds x)) b.deletes [] a;
     changes = λ k t is xs long.
         ap (λ z. whole z) (value_changed n.unit 0 b.changes n.terms xs k k t is (omega arith) (subst (λ l. k < l) (sym long) (slice_get_within n.terms k t is)))
-        ∙ sym (whole_plus (value_at xs k) (scaled n.unit (number_on b.changes t)))
+        ∙ sym (whole_plus (value_at xs k) (scaled_number n.unit (number_on b.changes t)))
         ∙ ap (plus (whole (value_at xs k))) (h.changes i b at k t is);
   }
 

@@ -32,10 +32,10 @@ use Rattle.np_flat.specs.declared.parts.Subgoal.TheVariants as subgoal
 use Rattle.np_flat.specs.Flats.{AreNumbers, AreAmounts, IsForm, IsSubgoal, IsStep, IsFlat}
 use Rattle.np_flat.specs.States.{has, put_all}
 use Rattle.np_flat.proofs.Ascending.{ascending_nil, ascending_put_all, All-put_all, has_put_all}
-use Rattle.np_scale.specs.Tables.{number_of, conditions_of, facts_of, terms_of}
-use Rattle.np_scale.specs.Wholes.{unit_of, scaled, factor_of, whole_times}
-use Rattle.np_scale.specs.Forms.{Side, sides_of, factor_on, form_of, never, literal_of, subgoals_in, coefficients_of}
-use Rattle.np_scale.specs.FlatOf.{Numbers, same_subgoal, all_subgoals, numbers_of, subgoal_numbers, fact_numbers, changes_from, flat_step, flat_of}
+use Rattle.np_scale.specs.Tables.{number_of, conditions_of, facts_of, values_of}
+use Rattle.np_scale.specs.Wholes.{unit_of, scaled_number, factor_of, whole_times}
+use Rattle.np_scale.specs.Forms.{Inequality, inequalities_of, factor_on, form_of, never_form, literal_of, subgoals_in, coefficients_of}
+use Rattle.np_scale.specs.FlatOf.{FlatTables, same_subgoal, all_subgoals, numbers_of, subgoal_numbers, fact_numbers, changes_from, flat_step, flat_of}
 use Rattle.np_scale.specs.Limits.{is_below, is_small_form}
 use Rattle.np_scale.specs.Laws.{FlatIsFlat}
 use Rattle.np_scale.proofs.Every.{each_weaker, each_both, each_map, each_append, each_passes, each_flat, each_flat_from}
@@ -62,7 +62,7 @@ factor_some terms l is =
     (each_ascending (λ c. is_zero c.1 ≡ false) (numbered terms l.terms) (each_map (λ (c : ℕ × Fraction). is_zero c.1 ≡ false) (λ t. (number_of same_term terms t.0, t.1)) l.terms is.some)))
 
 -- the numbers and coefficients of a form
-amounts_of : (terms : List Term) (unit : ℕ) (side : Side) → IsSide terms side.1 → is_small_form (form_of terms unit side) ≡ true → AreAmounts (length terms) COEFFICIENT_SIZE (form_of terms unit side).terms
+amounts_of : (terms : List Term) (unit : ℕ) (side : Inequality) → IsSide terms side.1 → is_small_form (form_of terms unit side) ≡ true → AreAmounts (length terms) COEFFICIENT_SIZE (form_of terms unit side).terms
 amounts_of terms unit side is small = record {
   numbers =
       numbers_of_rising (length terms) (form_of terms unit side).terms
@@ -85,14 +85,14 @@ amounts_of terms unit side is small = record {
       (and_parts (is_below CONSTANT_SIZE (form_of terms unit side).constant) _ small).1)));
 }
 
-form_is : (terms : List Term) (unit : ℕ) (side : Side) → IsSide terms side.1 → IsSmall (subgoal.Form (form_of terms unit side)) → IsForm (length terms) (form_of terms unit side)
+form_is : (terms : List Term) (unit : ℕ) (side : Inequality) → IsSide terms side.1 → IsSmall (subgoal.Form (form_of terms unit side)) → IsForm (length terms) (form_of terms unit side)
 form_is terms unit side is small = record {
   constant = ltb-true (unsigned_abs (form_of terms unit side).constant) CONSTANT_SIZE (and_parts (is_below CONSTANT_SIZE (form_of terms unit side).constant) _ small.1).0;
   few = small.0;
   terms = amounts_of terms unit side is small.1;
 }
 
-never_is : (limit : ℕ) → IsForm limit never
+never_is : (limit : ℕ) → IsForm limit never_form
 never_is limit = record {
   constant = omega arith;
   few = omega arith;
@@ -105,7 +105,7 @@ never_is limit = record {
 
 -- ---- subgoals
 
-forms_are : (facts : ℕ) (terms : List Term) (unit : ℕ) (sides : List Side) → AllByRecursion (λ side. IsSide terms side.1) sides
+forms_are : (facts : ℕ) (terms : List Term) (unit : ℕ) (sides : List Inequality) → AllByRecursion (λ side. IsSide terms side.1) sides
     → AllByRecursion IsSmall (map (λ side. subgoal.Form (form_of terms unit side)) sides) → AllByRecursion (IsSubgoal facts (length terms)) (map (λ side. subgoal.Form (form_of terms unit side)) sides)
 forms_are facts terms unit [] is small = tt
 forms_are facts terms unit (side ∷ sides) is small = (form_is terms unit side is.0 small.0, forms_are facts terms unit sides is.1 small.1)
@@ -114,29 +114,29 @@ literal_is : (facts : List model.Atom) (values : ℕ) (positive : Bool) (a : mod
 literal_is facts values true a there = number_within same_atom same_atom-Decides facts a there
 literal_is facts values false a there = number_within same_atom same_atom-Decides facts a there
 
-subgoals_of : (bound : BoundParts) (c : BoundCond) → IsFound bound c → AllByRecursion IsSmall (subgoals_in (facts_of bound) (terms_of bound) (unit_of bound) c)
-    → AllByRecursion (IsSubgoal (length (facts_of bound)) (length (terms_of bound))) (subgoals_in (facts_of bound) (terms_of bound) (unit_of bound) c)
-subgoals_of bound (Atom positive a) found small = (literal_is (facts_of bound) (length (terms_of bound)) positive a found.read.atoms.0, tt)
-subgoals_of bound (Compare op l) found small = forms_are (length (facts_of bound)) (terms_of bound) (unit_of bound) (sides_of op l) (sides_are bound op l found) small
-subgoals_of bound Never found small = (never_is (length (terms_of bound)), tt)
+subgoals_of : (bound : BoundParts) (c : BoundCond) → IsFound bound c → AllByRecursion IsSmall (subgoals_in (facts_of bound) (values_of bound) (unit_of bound) c)
+    → AllByRecursion (IsSubgoal (length (facts_of bound)) (length (values_of bound))) (subgoals_in (facts_of bound) (values_of bound) (unit_of bound) c)
+subgoals_of bound (Atom positive a) found small = (literal_is (facts_of bound) (length (values_of bound)) positive a found.read.atoms.0, tt)
+subgoals_of bound (Compare op l) found small = forms_are (length (facts_of bound)) (values_of bound) (unit_of bound) (inequalities_of op l) (sides_are bound op l found) small
+subgoals_of bound Never found small = (never_is (length (values_of bound)), tt)
 
 -- the subgoals of all conditions are small
 abbrev HasSmallSubgoals : BoundParts → BoundCond → Type 0
-HasSmallSubgoals bound c = AllByRecursion IsSmall (subgoals_in (facts_of bound) (terms_of bound) (unit_of bound) c)
+HasSmallSubgoals bound c = AllByRecursion IsSmall (subgoals_in (facts_of bound) (values_of bound) (unit_of bound) c)
 
 all_small : (bound : BoundParts) (known : List Subgoal) → IsWithin bound known → AllByRecursion (HasSmallSubgoals bound) (conditions_of bound)
 all_small bound known within =
     each_append (HasSmallSubgoals bound) _ bound.goal
     (each_flat_from (HasSmallSubgoals bound) (λ b. b.needs) bound.steps
-    (each_weaker (IsFitting (facts_of bound) (terms_of bound) (unit_of bound)) (λ b. AllByRecursion (HasSmallSubgoals bound) b.needs)
-    (λ b fits. each_flat IsSmall (subgoals_in (facts_of bound) (terms_of bound) (unit_of bound)) b.needs fits.needs) bound.steps within.steps))
-    (each_flat IsSmall (subgoals_in (facts_of bound) (terms_of bound) (unit_of bound)) bound.goal within.goal)
+    (each_weaker (IsFitting (facts_of bound) (values_of bound) (unit_of bound)) (λ b. AllByRecursion (HasSmallSubgoals bound) b.needs)
+    (λ b fits. each_flat IsSmall (subgoals_in (facts_of bound) (values_of bound) (unit_of bound)) b.needs fits.needs) bound.steps within.steps))
+    (each_flat IsSmall (subgoals_in (facts_of bound) (values_of bound) (unit_of bound)) bound.goal within.goal)
 
 all_subgoals_are : (bound : BoundParts) (known : List Subgoal) → IsBound bound → IsWithin bound known
-    → AllByRecursion (IsSubgoal (length (facts_of bound)) (length (terms_of bound))) (all_subgoals (facts_of bound) (terms_of bound) (unit_of bound) (conditions_of bound))
+    → AllByRecursion (IsSubgoal (length (facts_of bound)) (length (values_of bound))) (all_subgoals (facts_of bound) (values_of bound) (unit_of bound) (conditions_of bound))
 all_subgoals_are bound known is within =
-    each_flat_from (IsSubgoal (length (facts_of bound)) (length (terms_of bound))) (subgoals_in (facts_of bound) (terms_of bound) (unit_of bound)) (conditions_of bound)
-    (each_weaker (λ c. IsFound bound c × HasSmallSubgoals bound c) (λ c. AllByRecursion (IsSubgoal (length (facts_of bound)) (length (terms_of bound))) (subgoals_in (facts_of bound) (terms_of bound) (unit_of bound) c))
+    each_flat_from (IsSubgoal (length (facts_of bound)) (length (values_of bound))) (subgoals_in (facts_of bound) (values_of bound) (unit_of bound)) (conditions_of bound)
+    (each_weaker (λ c. IsFound bound c × HasSmallSubgoals bound c) (λ c. AllByRecursion (IsSubgoal (length (facts_of bound)) (length (values_of bound))) (subgoals_in (facts_of bound) (values_of bound) (unit_of bound) c))
     (λ c both. subgoals_of bound c both.0 both.1) (conditions_of bound)
     (each_both (IsFound bound) (HasSmallSubgoals bound) (conditions_of bound) (conditions_found bound is) (all_small bound known within)))
 
@@ -150,7 +150,7 @@ numbers_put limit ns below = record {
 }
 
 -- the numbers of facts
-pub facts_are : (n : Numbers) (atoms : List model.Atom) → AreNumbers (length n.facts) (fact_numbers n atoms)
+pub facts_are : (n : FlatTables) (atoms : List model.Atom) → AreNumbers (length n.facts) (fact_numbers n atoms)
 facts_are n atoms =
     numbers_put (length n.facts) (map (number_of same_atom n.facts) (filter (is_among n.facts) atoms))
     (each_map (λ p. p < length n.facts) (number_of same_atom n.facts) (filter (is_among n.facts) atoms)
@@ -160,11 +160,11 @@ facts_are n atoms =
 -- the numbers of the subgoals of conditions
 pub subgoals_put : (bound : BoundParts) (cs : List BoundCond) → AllByRecursion (AreNumbered bound) cs → AreNumbers (length (numbers_of bound).subgoals) (subgoal_numbers (numbers_of bound) cs)
 subgoals_put bound cs there =
-    numbers_put (length (numbers_of bound).subgoals) (map (number_of same_subgoal (numbers_of bound).subgoals) (all_subgoals (facts_of bound) (terms_of bound) (unit_of bound) cs))
-    (each_map (λ q. q < length (numbers_of bound).subgoals) (number_of same_subgoal (numbers_of bound).subgoals) (all_subgoals (facts_of bound) (terms_of bound) (unit_of bound) cs)
+    numbers_put (length (numbers_of bound).subgoals) (map (number_of same_subgoal (numbers_of bound).subgoals) (all_subgoals (facts_of bound) (values_of bound) (unit_of bound) cs))
+    (each_map (λ q. q < length (numbers_of bound).subgoals) (number_of same_subgoal (numbers_of bound).subgoals) (all_subgoals (facts_of bound) (values_of bound) (unit_of bound) cs)
     (each_weaker (λ q. list_any (same_subgoal q) (numbers_of bound).subgoals ≡ true) (λ q. number_of same_subgoal (numbers_of bound).subgoals q < length (numbers_of bound).subgoals)
-    (λ q e. number_within same_subgoal same_subgoal-Decides (numbers_of bound).subgoals q e) (all_subgoals (facts_of bound) (terms_of bound) (unit_of bound) cs)
-    (each_flat_from (λ q. list_any (same_subgoal q) (numbers_of bound).subgoals ≡ true) (subgoals_in (facts_of bound) (terms_of bound) (unit_of bound)) cs there)))
+    (λ q e. number_within same_subgoal same_subgoal-Decides (numbers_of bound).subgoals q e) (all_subgoals (facts_of bound) (values_of bound) (unit_of bound) cs)
+    (each_flat_from (λ q. list_any (same_subgoal q) (numbers_of bound).subgoals ≡ true) (subgoals_in (facts_of bound) (values_of bound) (unit_of bound)) cs there)))
 
 -- the number of a fact is among those of atoms where the fact is among the atoms
 pub number_back : (facts atoms : List model.Atom) (a : model.Atom) → is_among facts a ≡ true → has (map (number_of same_atom facts) (filter (is_among facts) atoms)) (number_of same_atom facts a) ≡ true → is_among atoms a ≡ true
@@ -187,7 +187,7 @@ number_back facts (b ∷ atoms) a there e =
         rest false e h = h
 
 -- what is added isn't deleted
-apart_from : (n : Numbers) (adds deletes : List model.Atom) → All (λ p. Contains (fact_numbers n adds) p → ⊥) (fact_numbers n (filter (λ a. not (is_among adds a)) deletes))
+apart_from : (n : FlatTables) (adds deletes : List model.Atom) → All (λ p. Contains (fact_numbers n adds) p → ⊥) (fact_numbers n (filter (λ a. not (is_among adds a)) deletes))
 apart_from n adds deletes =
     All-put_all (λ p. Contains (fact_numbers n adds) p → ⊥) (map (number_of same_atom n.facts) (filter (is_among n.facts) (filter (λ a. not (is_among adds a)) deletes))) []
     (All-from_recursion (λ p. Contains (fact_numbers n adds) p → ⊥) (map (number_of same_atom n.facts) (filter (is_among n.facts) (filter (λ a. not (is_among adds a)) deletes)))
@@ -223,7 +223,7 @@ changes_above unit k changes (t ∷ ts) =
     itself = omega arith
 
     by : (b : Bool) → AllByRecursion (λ (c : ℕ × ℤ). k ≤ c.0) (changes_from unit (suc k) changes ts)
-        → AllByRecursion (λ (c : ℕ × ℤ). k ≤ c.0) (if b then changes_from unit (suc k) changes ts else ((k, scaled unit (number_on changes t)) ∷ changes_from unit (suc k) changes ts))
+        → AllByRecursion (λ (c : ℕ × ℤ). k ≤ c.0) (if b then changes_from unit (suc k) changes ts else ((k, scaled_number unit (number_on changes t)) ∷ changes_from unit (suc k) changes ts))
     by true rest = rest
     by false rest = (itself, rest)
 
@@ -232,7 +232,7 @@ changes_rise unit k changes [] = tt
 changes_rise unit k changes (t ∷ ts) = by (is_zero (number_on changes t)) (changes_rise unit (suc k) changes ts)
   where
     by : (b : Bool) → Rising (changes_from unit (suc k) changes ts)
-        → Rising (if b then changes_from unit (suc k) changes ts else ((k, scaled unit (number_on changes t)) ∷ changes_from unit (suc k) changes ts))
+        → Rising (if b then changes_from unit (suc k) changes ts else ((k, scaled_number unit (number_on changes t)) ∷ changes_from unit (suc k) changes ts))
     by true rest = rest
     by false rest = (changes_above unit (suc k) changes ts, rest)
 
@@ -244,26 +244,26 @@ changes_below unit k limit changes (t ∷ ts) h = by (is_zero (number_on changes
     here = omega arith
 
     by : (b : Bool) → AllByRecursion (λ (c : ℕ × ℤ). c.0 < limit) (changes_from unit (suc k) changes ts)
-        → AllByRecursion (λ (c : ℕ × ℤ). c.0 < limit) (if b then changes_from unit (suc k) changes ts else ((k, scaled unit (number_on changes t)) ∷ changes_from unit (suc k) changes ts))
+        → AllByRecursion (λ (c : ℕ × ℤ). c.0 < limit) (if b then changes_from unit (suc k) changes ts else ((k, scaled_number unit (number_on changes t)) ∷ changes_from unit (suc k) changes ts))
     by true rest = rest
     by false rest = (here, rest)
 
 -- what holds of each scaled change that isn't 0
 each_change : (P : ℤ → Type 0) (unit k : ℕ) (changes : List (Term × Fraction)) (ts : List Term)
-    → AllByRecursion (λ t. is_zero (number_on changes t) ≡ false → P (scaled unit (number_on changes t))) ts → AllByRecursion (λ c. P c.1) (changes_from unit k changes ts)
+    → AllByRecursion (λ t. is_zero (number_on changes t) ≡ false → P (scaled_number unit (number_on changes t))) ts → AllByRecursion (λ c. P c.1) (changes_from unit k changes ts)
 each_change P unit k changes [] all = tt
 each_change P unit k changes (t ∷ ts) all = by (is_zero (number_on changes t)) refl (each_change P unit (suc k) changes ts all.1)
   where
     by : (b : Bool) → is_zero (number_on changes t) ≡ b → AllByRecursion (λ (c : ℕ × ℤ). P c.1) (changes_from unit (suc k) changes ts)
-        → AllByRecursion (λ (c : ℕ × ℤ). P c.1) (if b then changes_from unit (suc k) changes ts else ((k, scaled unit (number_on changes t)) ∷ changes_from unit (suc k) changes ts))
+        → AllByRecursion (λ (c : ℕ × ℤ). P c.1) (if b then changes_from unit (suc k) changes ts else ((k, scaled_number unit (number_on changes t)) ∷ changes_from unit (suc k) changes ts))
     by true none rest = rest
     by false some rest = (all.0 some, rest)
 
-some_changes : (unit : ℕ) → 0 < unit → (changes : List (Term × Fraction)) (ts : List Term) → AllByRecursion (λ t. is_zero (number_on changes t) ≡ false → scaled unit (number_on changes t) ≢ pos 0) ts
+some_changes : (unit : ℕ) → 0 < unit → (changes : List (Term × Fraction)) (ts : List Term) → AllByRecursion (λ t. is_zero (number_on changes t) ≡ false → scaled_number unit (number_on changes t) ≢ pos 0) ts
 some_changes unit h changes [] = tt
 some_changes unit h changes (t ∷ ts) = ((λ some. scaled_some unit (number_on changes t) h some), some_changes unit h changes ts)
 
-changes_are : (unit : ℕ) (changes : List (Term × Fraction)) (ts : List Term) → 0 < unit → AllByRecursion (λ t. unsigned_abs (scaled unit (number_on changes t)) < CHANGE_SIZE) ts
+changes_are : (unit : ℕ) (changes : List (Term × Fraction)) (ts : List Term) → 0 < unit → AllByRecursion (λ t. unsigned_abs (scaled_number unit (number_on changes t)) < CHANGE_SIZE) ts
     → AreAmounts (length ts) CHANGE_SIZE (changes_from unit 0 changes ts)
 changes_are unit changes ts h small = record {
   numbers = numbers_of_rising (length ts) (changes_from unit 0 changes ts) (changes_rise unit 0 changes ts) (changes_below unit 0 (length ts) changes ts (omega arith));
@@ -272,32 +272,32 @@ changes_are unit changes ts h small = record {
       All-from_recursion (λ n. unsigned_abs n < CHANGE_SIZE) (map (λ (c : ℕ × ℤ). c.1) (changes_from unit 0 changes ts))
       (each_map (λ n. unsigned_abs n < CHANGE_SIZE) (λ (c : ℕ × ℤ). c.1) (changes_from unit 0 changes ts)
       (each_change (λ n. unsigned_abs n < CHANGE_SIZE) unit 0 changes ts
-      (each_weaker (λ t. unsigned_abs (scaled unit (number_on changes t)) < CHANGE_SIZE) (λ t. is_zero (number_on changes t) ≡ false → unsigned_abs (scaled unit (number_on changes t)) < CHANGE_SIZE) (λ t h some. h) ts small)));
+      (each_weaker (λ t. unsigned_abs (scaled_number unit (number_on changes t)) < CHANGE_SIZE) (λ t. is_zero (number_on changes t) ≡ false → unsigned_abs (scaled_number unit (number_on changes t)) < CHANGE_SIZE) (λ t h some. h) ts small)));
 }
 
 -- ---- steps
 
-step_is : (bound : BoundParts) (b : BoundStep) → IsFitting (facts_of bound) (terms_of bound) (unit_of bound) b → AllByRecursion (AreNumbered bound) b.needs
-    → IsStep (length (facts_of bound)) (length (terms_of bound)) (length (numbers_of bound).subgoals) (flat_step (numbers_of bound) b)
+step_is : (bound : BoundParts) (b : BoundStep) → IsFitting (facts_of bound) (values_of bound) (unit_of bound) b → AllByRecursion (AreNumbered bound) b.needs
+    → IsStep (length (facts_of bound)) (length (values_of bound)) (length (numbers_of bound).subgoals) (flat_step (numbers_of bound) b)
 step_is bound b fits numbered = record {
   needs = subgoals_put bound b.needs numbered;
   adds = facts_are (numbers_of bound) b.adds;
   deletes = facts_are (numbers_of bound) (filter (λ a. not (is_among b.adds a)) b.deletes);
   apart = apart_from (numbers_of bound) b.adds b.deletes;
-  changes = changes_are (unit_of bound) b.changes (terms_of bound) (unit_above bound) fits.changes;
+  changes = changes_are (unit_of bound) b.changes (values_of bound) (unit_above bound) fits.changes;
   cost = fits.cost;
 }
 
 steps_are : (bound : BoundParts) (known : List Subgoal) → IsWithin bound known
-    → All (IsStep (length (facts_of bound)) (length (terms_of bound)) (length (numbers_of bound).subgoals)) (map (flat_step (numbers_of bound)) bound.steps)
+    → All (IsStep (length (facts_of bound)) (length (values_of bound)) (length (numbers_of bound).subgoals)) (map (flat_step (numbers_of bound)) bound.steps)
 steps_are bound known within =
-    All-from_recursion (IsStep (length (facts_of bound)) (length (terms_of bound)) (length (numbers_of bound).subgoals)) (map (flat_step (numbers_of bound)) bound.steps)
-    (each_map (IsStep (length (facts_of bound)) (length (terms_of bound)) (length (numbers_of bound).subgoals)) (flat_step (numbers_of bound)) bound.steps
-    (each_weaker (λ b. IsFitting (facts_of bound) (terms_of bound) (unit_of bound) b × AllByRecursion (AreNumbered bound) b.needs)
-    (λ b. IsStep (length (facts_of bound)) (length (terms_of bound)) (length (numbers_of bound).subgoals) (flat_step (numbers_of bound) b)) (λ b both. step_is bound b both.0 both.1) bound.steps
-    (each_both (IsFitting (facts_of bound) (terms_of bound) (unit_of bound)) (λ b. AllByRecursion (AreNumbered bound) b.needs) bound.steps within.steps (of_steps (AreNumbered bound) bound (conditions_numbered bound)))))
+    All-from_recursion (IsStep (length (facts_of bound)) (length (values_of bound)) (length (numbers_of bound).subgoals)) (map (flat_step (numbers_of bound)) bound.steps)
+    (each_map (IsStep (length (facts_of bound)) (length (values_of bound)) (length (numbers_of bound).subgoals)) (flat_step (numbers_of bound)) bound.steps
+    (each_weaker (λ b. IsFitting (facts_of bound) (values_of bound) (unit_of bound) b × AllByRecursion (AreNumbered bound) b.needs)
+    (λ b. IsStep (length (facts_of bound)) (length (values_of bound)) (length (numbers_of bound).subgoals) (flat_step (numbers_of bound) b)) (λ b both. step_is bound b both.0 both.1) bound.steps
+    (each_both (IsFitting (facts_of bound) (values_of bound) (unit_of bound)) (λ b. AllByRecursion (AreNumbered bound) b.needs) bound.steps within.steps (of_steps (AreNumbered bound) bound (conditions_numbered bound)))))
 
-same_steps : (n : Numbers) (bs : List BoundStep) → map (λ (step : FlatStep). step.step) (map (flat_step n) bs) ≡ map (λ (b : BoundStep). b.step) bs
+same_steps : (n : FlatTables) (bs : List BoundStep) → map (λ (step : FlatStep). step.step) (map (flat_step n) bs) ≡ map (λ (b : BoundStep). b.step) bs
 same_steps n [] = refl
 same_steps n (b ∷ bs) = ap (λ (ss : List Step). b.step ∷ ss) (same_steps n bs)
 
@@ -314,15 +314,15 @@ flat_of_is_flat bound known is within = record {
   few_steps = few (length (map (flat_step (numbers_of bound)) bound.steps)) (length bound.steps) (length-map bound.steps (flat_step (numbers_of bound))) is.few;
   start = record {
     facts_are = facts_are (numbers_of bound) bound.atoms;
-    count = length-map (terms_of bound) (λ t. scaled (unit_of bound) (number_on bound.values t));
+    count = length-map (values_of bound) (λ t. scaled_number (unit_of bound) (number_on bound.values t));
   };
   small_start =
-      All-from_recursion (λ n. unsigned_abs n < CHANGE_SIZE) (map (λ t. scaled (unit_of bound) (number_on bound.values t)) (terms_of bound))
-      (each_map (λ n. unsigned_abs n < CHANGE_SIZE) (λ t. scaled (unit_of bound) (number_on bound.values t)) (terms_of bound) within.starts);
+      All-from_recursion (λ n. unsigned_abs n < CHANGE_SIZE) (map (λ t. scaled_number (unit_of bound) (number_on bound.values t)) (values_of bound))
+      (each_map (λ n. unsigned_abs n < CHANGE_SIZE) (λ t. scaled_number (unit_of bound) (number_on bound.values t)) (values_of bound) within.starts);
   subgoals =
-      once_all same_subgoal (IsSubgoal (length (facts_of bound)) (length (terms_of bound))) [] (all_subgoals (facts_of bound) (terms_of bound) (unit_of bound) (conditions_of bound))
-      (All-nil (IsSubgoal (length (facts_of bound)) (length (terms_of bound)))) (all_subgoals_are bound known is within);
-  distinct_subgoals = once_distinct same_subgoal same_subgoal-Decides [] (all_subgoals (facts_of bound) (terms_of bound) (unit_of bound) (conditions_of bound)) distinct_none;
+      once_all same_subgoal (IsSubgoal (length (facts_of bound)) (length (values_of bound))) [] (all_subgoals (facts_of bound) (values_of bound) (unit_of bound) (conditions_of bound))
+      (All-nil (IsSubgoal (length (facts_of bound)) (length (values_of bound)))) (all_subgoals_are bound known is within);
+  distinct_subgoals = once_distinct same_subgoal same_subgoal-Decides [] (all_subgoals (facts_of bound) (values_of bound) (unit_of bound) (conditions_of bound)) distinct_none;
   steps = steps_are bound known within;
   distinct = subst (λ (ss : List Step). AreDistinct ss) (sym (same_steps (numbers_of bound) bound.steps)) is.once;
   goal = subgoals_put bound bound.goal (of_goal (AreNumbered bound) bound (conditions_numbered bound));

@@ -17,7 +17,7 @@ use Rattle.np_flat.specs.States as flat
 use Rattle.np_scale.specs.Tables.{number_of}
 use Rattle.np_scale.specs.Wholes.{rounded_down, rounded_up}
 use Rattle.np_scale.specs.Wholes as scale
-use Rattle.np_scale.specs.Forms.{Side, in_place, ascending, coefficients_of, factor_on, constant_from, form_of}
+use Rattle.np_scale.specs.Forms.{Inequality, in_place, by_number, coefficients_of, factor_on, constant_from, form_of}
 use Rattle.np_scale.proofs.Once.{number_names}
 use Rattle.np_scale.proofs.Floors.{down_says, up_says}
 use Rattle.np_scale.proofs.Readings.{numbered}
@@ -42,22 +42,22 @@ sum_in_place w x (y ∷ ys) = by (nat_lt x.0 y.0) (sum_in_place w x ys)
     by false e = ap (plus (times y.1 (w y.0))) e ∙ swapped (times y.1 (w y.0)) (times x.1 (w x.0)) (exact_sum w ys)
 
 -- the order decides nothing
-sum_ascending : (w : ℕ → Fraction) (xs : List (ℕ × Fraction)) → exact_sum w (ascending xs) ≡ exact_sum w xs
+sum_ascending : (w : ℕ → Fraction) (xs : List (ℕ × Fraction)) → exact_sum w (by_number xs) ≡ exact_sum w xs
 sum_ascending w [] = refl
-sum_ascending w (x ∷ xs) = sum_in_place w x (ascending xs) ∙ ap (plus (times x.1 (w x.0))) (sum_ascending w xs)
+sum_ascending w (x ∷ xs) = sum_in_place w x (by_number xs) ∙ ap (plus (times x.1 (w x.0))) (sum_ascending w xs)
 
 -- the values by number
-abbrev pub by_number : List Term → (Term → Fraction) → ℕ → Fraction
-by_number terms v n = option_map_or v (slice_get terms n) zero
+abbrev pub on_number : List Term → (Term → Fraction) → ℕ → Fraction
+on_number terms v n = option_map_or v (slice_get terms n) zero
 
-pub by_number_of : (terms : List Term) (v : Term → Fraction) (t : Term) → list_any (same_term t) terms ≡ true → by_number terms v (number_of same_term terms t) ≡ v t
-by_number_of terms v t there = ap (λ o. option_map_or v o zero) (number_names same_term same_term-Decides terms t there)
+pub on_number_of : (terms : List Term) (v : Term → Fraction) (t : Term) → list_any (same_term t) terms ≡ true → on_number terms v (number_of same_term terms t) ≡ v t
+on_number_of terms v t there = ap (λ o. option_map_or v o zero) (number_names same_term same_term-Decides terms t there)
 
 sum_numbered : (terms : List Term) (v : Term → Fraction) (ts : List (Term × Fraction)) → AllByRecursion (λ t. list_any (same_term t.0) terms ≡ true) ts
-    → exact_sum (by_number terms v) (numbered terms ts) ≡ terms_value v ts
+    → exact_sum (on_number terms v) (numbered terms ts) ≡ terms_value v ts
 sum_numbered terms v [] there = refl
 sum_numbered terms v (t ∷ ts) there =
-    ap (λ x. plus (times t.1 x) (exact_sum (by_number terms v) (numbered terms ts))) (by_number_of terms v t.0 there.0)
+    ap (λ x. plus (times t.1 x) (exact_sum (on_number terms v) (numbered terms ts))) (on_number_of terms v t.0 there.0)
     ∙ ap (plus (times t.1 (v t.0))) (sum_numbered terms v ts there.1)
 
 -- ---- scaled sums
@@ -99,7 +99,7 @@ abbrev pub side_op : Bool → Op
 side_op false = AtLeast
 side_op true = Greater
 
-abbrev pub side_holds : (Term → Fraction) → Side → Bool
+abbrev pub side_holds : (Term → Fraction) → Inequality → Bool
 side_holds v side = compares (side_op side.0) (linear_value v side.1) zero
 
 rounded_says : (strict : Bool) (n : ℤ) (l c u t : Fraction) → pos 0 <ℤ (times t u).num → whole n ≡ times (times t u) l
@@ -110,11 +110,11 @@ rounded_says true n l c u t h e =
     up_says n (times (times c u) t) ∙ ap (λ z. is_gt (fraction_cmp z (whole (pos 0)))) (value_scaled n l c u t e) ∙ ap is_gt (unscaled (plus l c) (times t u) h)
 
 -- a form is at least 0 exactly where its side holds
-pub form_says : (terms : List Term) (unit : ℕ) (v : Term → Fraction) (values : List ℤ) (side : Side) → pos 0 <ℤ (times (factor_on terms side.1) (whole (pos unit))).num
+pub form_says : (terms : List Term) (unit : ℕ) (v : Term → Fraction) (values : List ℤ) (side : Inequality) → pos 0 <ℤ (times (factor_on terms side.1) (whole (pos unit))).num
     → AllByRecursion (λ t. list_any (same_term t.0) terms ≡ true) side.1.terms
-    → AllByRecursion (IsExact (factor_on terms side.1) (whole (pos unit)) (by_number terms v) values) (coefficients_of terms side.1)
+    → AllByRecursion (IsExact (factor_on terms side.1) (whole (pos unit)) (on_number terms v) values) (coefficients_of terms side.1)
     → int_le (pos 0) ((form_of terms unit side).constant +ℤ flat.terms_value values (form_of terms unit side).terms) ≡ side_holds v side
 form_says terms unit v values side h there exact =
     rounded_says side.0 (flat.terms_value values (form_of terms unit side).terms) (terms_value v side.1.terms) side.1.constant (whole (pos unit)) (factor_on terms side.1) h
-    (sum_scaled (factor_on terms side.1) (whole (pos unit)) (by_number terms v) values (coefficients_of terms side.1) exact
-    ∙ ap (times (times (factor_on terms side.1) (whole (pos unit)))) (sum_ascending (by_number terms v) (numbered terms side.1.terms) ∙ sum_numbered terms v side.1.terms there))
+    (sum_scaled (factor_on terms side.1) (whole (pos unit)) (on_number terms v) values (coefficients_of terms side.1) exact
+    ∙ ap (times (times (factor_on terms side.1) (whole (pos unit)))) (sum_ascending (on_number terms v) (numbered terms side.1.terms) ∙ sum_numbered terms v side.1.terms there))

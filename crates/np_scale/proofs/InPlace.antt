@@ -6,7 +6,7 @@ use Rattle.std.proofs.lemmas.Bool.{ltb-true, ltb-false}
 use Rattle.std.proofs.lemmas.List.Elements.{All-from_recursion}
 use Rattle.np_flat.specs.Flats.{IsAscending, AreNumbers}
 use Rattle.np_flat.proofs.Ascending.{ascending_nil, ascending_cons}
-use Rattle.np_scale.specs.Forms.{in_place, ascending}
+use Rattle.np_scale.specs.Forms.{in_place, by_number}
 use Rattle.np_scale.proofs.Every.{each_weaker, each_map}
 
 -- each number is less than the later ones
@@ -28,9 +28,9 @@ each_in_place P x (y ∷ ys) h all = by (nat_lt x.0 y.0) (each_in_place P x ys h
     by true rest = (h, all)
     by false rest = (all.0, rest)
 
-pub each_ascending : {A : Type 0} (P : ℕ × A → Type 0) (xs : List (ℕ × A)) → AllByRecursion P xs → AllByRecursion P (ascending xs)
+pub each_ascending : {A : Type 0} (P : ℕ × A → Type 0) (xs : List (ℕ × A)) → AllByRecursion P xs → AllByRecursion P (by_number xs)
 each_ascending P [] all = tt
-each_ascending P (x ∷ xs) all = each_in_place P x (ascending xs) all.0 (each_ascending P xs all.1)
+each_ascending P (x ∷ xs) all = each_in_place P x (by_number xs) all.0 (each_ascending P xs all.1)
 
 -- a pair in its place keeps the order
 rising_in_place : {A : Type 0} (x : ℕ × A) (ys : List (ℕ × A)) → AllByRecursion (λ y. x.0 ≢ y.0) ys → Rising ys → Rising (in_place x ys)
@@ -48,9 +48,9 @@ rising_in_place x (y ∷ ys) apart up = by (nat_lt x.0 y.0) refl (rising_in_plac
         ((ltb-true x.0 y.0 lt, each_weaker (λ z. y.0 < z.0) (λ z. x.0 < z.0) (λ z h. less (ltb-true x.0 y.0 lt) z.0 h) ys up.0), up)
     by false ge rest = (each_in_place (λ z. y.0 < z.0) x ys (other (ltb-false x.0 y.0 ge) apart.0) up.0, rest)
 
-pub rising_ascending : {A : Type 0} (xs : List (ℕ × A)) → Apart xs → Rising (ascending xs)
+pub rising_ascending : {A : Type 0} (xs : List (ℕ × A)) → Apart xs → Rising (by_number xs)
 rising_ascending [] apart = tt
-rising_ascending (x ∷ xs) apart = rising_in_place x (ascending xs) (each_ascending (λ y. x.0 ≢ y.0) xs apart.0) (rising_ascending xs apart.1)
+rising_ascending (x ∷ xs) apart = rising_in_place x (by_number xs) (each_ascending (λ y. x.0 ≢ y.0) xs apart.0) (rising_ascending xs apart.1)
 
 -- as many
 length_in_place : {A : Type 0} (x : ℕ × A) (ys : List (ℕ × A)) → length (in_place x ys) ≡ suc (length ys)
@@ -61,9 +61,9 @@ length_in_place x (y ∷ ys) = by (nat_lt x.0 y.0) (length_in_place x ys)
     by true e = refl
     by false e = ap suc e
 
-pub length_ascending : {A : Type 0} (xs : List (ℕ × A)) → length (ascending xs) ≡ length xs
+pub length_ascending : {A : Type 0} (xs : List (ℕ × A)) → length (by_number xs) ≡ length xs
 length_ascending [] = refl
-length_ascending (x ∷ xs) = length_in_place x (ascending xs) ∙ ap suc (length_ascending xs)
+length_ascending (x ∷ xs) = length_in_place x (by_number xs) ∙ ap suc (length_ascending xs)
 
 -- the numbers stay where the other parts are changed
 pub rising_map : {A B : Type 0} (f : ℕ × A → B) (xs : List (ℕ × A)) → Rising xs → Rising (map (λ x. (x.0, f x)) xs)

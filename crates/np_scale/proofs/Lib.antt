@@ -21,3 +21,15 @@ pub mod FlatImages
 pub mod ExactNumbers
 pub mod SameRuns
 pub mod UnitIsUnit
+pub mod Tables
+pub mod Known
+pub mod ReadSubgoals
+pub mod Scaled
+pub mod Units
+pub mod Amounts
+pub mod Fitting
+pub mod Fitted
+pub mod Places
+pub mod Sided
+pub mod Steps
+pub mod Scalings

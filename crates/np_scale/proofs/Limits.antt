@@ -23,11 +23,11 @@ use Rattle.np_flat.specs.declared.parts.Subgoal.{Subgoal}
 use Rattle.np_flat.specs.declared.parts.Subgoal.TheVariants as subgoal
 use Rattle.np_scale.specs.declared.fault.ScaleFault.{ScaleFault}
 use Rattle.np_scale.specs.declared.fault.ScaleFault.TheVariants.{TooManyFacts, TooManyValues, TooManySubgoals, UnitWide, NumberWide, FormLong, CostNegative, CostNotWhole, CostWide}
-use Rattle.np_scale.specs.Tables.{each_once, number_of, conditions_of, facts_of, terms_of}
-use Rattle.np_scale.specs.Wholes.{unit_of, scaled, whole_times}
-use Rattle.np_scale.specs.Forms.{Side, sides_of, form_of, literal_of, never, subgoals_in, coefficients_of, factor_on}
+use Rattle.np_scale.specs.Tables.{each_once, number_of, conditions_of, facts_of, values_of}
+use Rattle.np_scale.specs.Wholes.{unit_of, scaled_number, whole_times}
+use Rattle.np_scale.specs.Forms.{Inequality, inequalities_of, form_of, literal_of, never_form, subgoals_in, coefficients_of, factor_on}
 use Rattle.np_scale.specs.FlatOf.{same_subgoal, all_subgoals, flat_of}
-use Rattle.np_scale.specs.Limits.{Checked, unless, each_checked, is_small_form, fractions_fit, checked_form, checked_subgoals, with_subgoal, with_subgoals, with_conditions, checked_start, checked_change, checked_cost, checked_step, checked_steps, checked}
+use Rattle.np_scale.specs.Limits.{Checked, unless, each_checked, is_small_form, fractions_fit, checked_form, checked_subgoals, with_subgoal, with_subgoals, with_conditions, checked_start, checked_change, checked_cost, checked_step, checked_steps, subgoals_within_limits}
 use Rattle.np_scale.specs.Scaling.{scale_task}
 use Rattle.np_scale.proofs.Once.{once_append}
 use Rattle.np_scale.proofs.InPlace.{length_ascending}
@@ -71,13 +71,13 @@ come_append [] (x ∷ qs) ss ps p q = absurd p
 come_append (r ∷ rs) [] ss ps p q = absurd p
 come_append (r ∷ rs) (x ∷ qs) ss ps p q = (p.0, come_append rs qs ss ps p.1 q)
 
-length_terms : (terms : List Term) (unit : ℕ) (side : Side) → length (form_of terms unit side).terms ≡ length side.1.terms
+length_terms : (terms : List Term) (unit : ℕ) (side : Inequality) → length (form_of terms unit side).terms ≡ length side.1.terms
 length_terms terms unit side =
     length-map (coefficients_of terms side.1) (λ c. (c.0, whole_times (factor_on terms side.1) c.1))
     ∙ length_ascending (map (λ t. (number_of same_term terms t.0, t.1)) side.1.terms)
     ∙ length-map side.1.terms (λ t. (number_of same_term terms t.0, t.1))
 
-form_comes : (spot : Spot) (terms : List Term) (unit : ℕ) (side : Side) → Comes (checked_form spot terms unit side) (subgoal.Form (form_of terms unit side))
+form_comes : (spot : Spot) (terms : List Term) (unit : ℕ) (side : Inequality) → Comes (checked_form spot terms unit side) (subgoal.Form (form_of terms unit side))
 form_comes spot terms unit side y e =
     goes_on (unless (not (nat_lt MOST_TERMS (length side.1.terms))) (FormLong spot)) _ y e (λ u short rest.
     goes_on (unless (fractions_fit terms unit side.1 && is_small_form (form_of terms unit side)) (NumberWide spot)) _ y rest (λ v small last. (
@@ -88,7 +88,7 @@ form_comes spot terms unit side y e =
       ),
     )))
 
-forms_come : (spot : Spot) (terms : List Term) (unit : ℕ) (sides : List Side) → AllCome (map (checked_form spot terms unit) sides) (map (λ side. subgoal.Form (form_of terms unit side)) sides)
+forms_come : (spot : Spot) (terms : List Term) (unit : ℕ) (sides : List Inequality) → AllCome (map (checked_form spot terms unit) sides) (map (λ side. subgoal.Form (form_of terms unit side)) sides)
 forms_come spot terms unit [] = tt
 forms_come spot terms unit (side ∷ sides) = (form_comes spot terms unit side, forms_come spot terms unit sides)
 
@@ -96,15 +96,15 @@ literal_comes : (facts : List model.Atom) (positive : Bool) (a : model.Atom) →
 literal_comes facts true a y e = (sym (same_Ok (literal_of facts true a) y e), tt)
 literal_comes facts false a y e = (sym (same_Ok (literal_of facts false a) y e), tt)
 
-never_comes : Comes (Ok (subgoal.Form never)) (subgoal.Form never)
-never_comes y e = (sym (same_Ok (subgoal.Form never) y e), (few, refl))
+never_comes : Comes (Ok (subgoal.Form never_form)) (subgoal.Form never_form)
+never_comes y e = (sym (same_Ok (subgoal.Form never_form) y e), (few, refl))
   where
     few : 0 ≤ MOST_TERMS
     few = omega arith
 
 condition_comes : (spot : Spot) (facts : List model.Atom) (terms : List Term) (unit : ℕ) (c : BoundCond) → AllCome (checked_subgoals spot facts terms unit c) (subgoals_in facts terms unit c)
 condition_comes spot facts terms unit (Atom positive a) = (literal_comes facts positive a, tt)
-condition_comes spot facts terms unit (Compare op l) = forms_come spot terms unit (sides_of op l)
+condition_comes spot facts terms unit (Compare op l) = forms_come spot terms unit (inequalities_of op l)
 condition_comes spot facts terms unit Never = (never_comes, tt)
 
 all_come : (spot : Spot) (facts : List model.Atom) (terms : List Term) (unit : ℕ) (cs : List BoundCond) → AllCome (flat_map (checked_subgoals spot facts terms unit) cs) (all_subgoals facts terms unit cs)
@@ -160,7 +160,7 @@ conditions_known spot facts terms unit known cs more few e =
 -- a step within its limits
 pub record IsFitting (facts : List model.Atom) (terms : List Term) (unit : ℕ) (b : BoundStep) : Type 0 where
   pub needs : AllByRecursion IsSmall (all_subgoals facts terms unit b.needs)
-  pub changes : AllByRecursion (λ t. unsigned_abs (scaled unit (number_on b.changes t)) < CHANGE_SIZE) terms
+  pub changes : AllByRecursion (λ t. unsigned_abs (scaled_number unit (number_on b.changes t)) < CHANGE_SIZE) terms
   pub cost_sign : int_lt b.cost.num (pos 0) ≡ false
   pub cost_whole : b.cost.den ≡ 1
   pub cost : unsigned_abs b.cost.num < COST_SIZE
@@ -181,7 +181,7 @@ step_known facts terms unit known b more few e =
     record {
       fits = record {
         needs = all.small;
-        changes = each_ok (λ t. unsigned_abs (scaled unit (number_on b.changes t)) < CHANGE_SIZE) (checked_change unit b) change_is terms u changes;
+        changes = each_ok (λ t. unsigned_abs (scaled_number unit (number_on b.changes t)) < CHANGE_SIZE) (checked_change unit b) change_is terms u changes;
         cost_sign = not-true (int_lt b.cost.num (pos 0)) (unless_ok _ (CostNegative b.step) x sign);
         cost_whole = eqb-true b.cost.den 1 (unless_ok _ (CostNotWhole b.step) y whole);
         cost = ltb-true (unsigned_abs b.cost.num) COST_SIZE (unless_ok _ (CostWide b.step) v small);
@@ -189,8 +189,8 @@ step_known facts terms unit known b more few e =
       all = subst (λ (xs : List Subgoal). AreKnown known (all_subgoals facts terms unit b.needs) xs) (same_Ok next more last) all;
     })))))
   where
-    change_is : (t : Term) (u : Unit {0}) → checked_change unit b t ≡ Ok u → unsigned_abs (scaled unit (number_on b.changes t)) < CHANGE_SIZE
-    change_is t u e = ltb-true (unsigned_abs (scaled unit (number_on b.changes t))) CHANGE_SIZE (unless_ok _ (NumberWide (Step b.step)) u e)
+    change_is : (t : Term) (u : Unit {0}) → checked_change unit b t ≡ Ok u → unsigned_abs (scaled_number unit (number_on b.changes t)) < CHANGE_SIZE
+    change_is t u e = ltb-true (unsigned_abs (scaled_number unit (number_on b.changes t))) CHANGE_SIZE (unless_ok _ (NumberWide (Step b.step)) u e)
 
 -- the conditions of steps
 abbrev pub needs_of : List BoundStep → List BoundCond
@@ -224,43 +224,43 @@ steps_known facts terms unit known (b ∷ bs) more few e =
 -- a bound task within all limits, with its subgoals
 pub record IsWithin (bound : BoundParts) (known : List Subgoal) : Type 0 where
   pub few_facts : length (facts_of bound) ≤ MOST_FACTS
-  pub few_values : length (terms_of bound) ≤ MOST_VALUES
+  pub few_values : length (values_of bound) ≤ MOST_VALUES
   pub unit : unit_of bound < CHANGE_SIZE
-  pub starts : AllByRecursion (λ t. unsigned_abs (scaled (unit_of bound) (number_on bound.values t)) < CHANGE_SIZE) (terms_of bound)
-  pub steps : AllByRecursion (IsFitting (facts_of bound) (terms_of bound) (unit_of bound)) bound.steps
-  pub goal : AllByRecursion IsSmall (all_subgoals (facts_of bound) (terms_of bound) (unit_of bound) bound.goal)
-  pub is : known ≡ each_once same_subgoal [] (all_subgoals (facts_of bound) (terms_of bound) (unit_of bound) (conditions_of bound))
+  pub starts : AllByRecursion (λ t. unsigned_abs (scaled_number (unit_of bound) (number_on bound.values t)) < CHANGE_SIZE) (values_of bound)
+  pub steps : AllByRecursion (IsFitting (facts_of bound) (values_of bound) (unit_of bound)) bound.steps
+  pub goal : AllByRecursion IsSmall (all_subgoals (facts_of bound) (values_of bound) (unit_of bound) bound.goal)
+  pub is : known ≡ each_once same_subgoal [] (all_subgoals (facts_of bound) (values_of bound) (unit_of bound) (conditions_of bound))
   pub few_subgoals : length known ≤ MOST_SUBGOALS
 
-pub within_limits : (bound : BoundParts) (known : List Subgoal) → checked bound ≡ Ok known → IsWithin bound known
-unfolding checked
+pub within_limits : (bound : BoundParts) (known : List Subgoal) → subgoals_within_limits bound ≡ Ok known → IsWithin bound known
+unfolding subgoals_within_limits
 within_limits bound known e =
     goes_on (unless (not (nat_lt MOST_FACTS (length (facts_of bound)))) TooManyFacts) _ known e (λ a facts e1.
-    goes_on (unless (not (nat_lt MOST_VALUES (length (terms_of bound)))) TooManyValues) _ known e1 (λ b values e2.
+    goes_on (unless (not (nat_lt MOST_VALUES (length (values_of bound)))) TooManyValues) _ known e1 (λ b values e2.
     goes_on (unless (nat_lt (unit_of bound) CHANGE_SIZE) UnitWide) _ known e2 (λ c unit e3.
-    goes_on (each_checked (checked_start (unit_of bound) bound) (terms_of bound)) _ known e3 (λ d starts e4.
-    goes_on (checked_steps (facts_of bound) (terms_of bound) (unit_of bound) [] bound.steps) _ known e4 (λ mid steps goal.
-    let first = steps_known (facts_of bound) (terms_of bound) (unit_of bound) [] bound.steps mid none steps in
-    let last = conditions_known Goal (facts_of bound) (terms_of bound) (unit_of bound) mid bound.goal known first.few goal in
+    goes_on (each_checked (checked_start (unit_of bound) bound) (values_of bound)) _ known e3 (λ d starts e4.
+    goes_on (checked_steps (facts_of bound) (values_of bound) (unit_of bound) [] bound.steps) _ known e4 (λ mid steps goal.
+    let first = steps_known (facts_of bound) (values_of bound) (unit_of bound) [] bound.steps mid none steps in
+    let last = conditions_known Goal (facts_of bound) (values_of bound) (unit_of bound) mid bound.goal known first.few goal in
     record {
       few_facts = at_most MOST_FACTS (length (facts_of bound)) (unless_ok _ TooManyFacts a facts);
-      few_values = at_most MOST_VALUES (length (terms_of bound)) (unless_ok _ TooManyValues b values);
+      few_values = at_most MOST_VALUES (length (values_of bound)) (unless_ok _ TooManyValues b values);
       unit = ltb-true (unit_of bound) CHANGE_SIZE (unless_ok _ UnitWide c unit);
-      starts = each_ok (λ t. unsigned_abs (scaled (unit_of bound) (number_on bound.values t)) < CHANGE_SIZE) (checked_start (unit_of bound) bound) start_is (terms_of bound) d starts;
+      starts = each_ok (λ t. unsigned_abs (scaled_number (unit_of bound) (number_on bound.values t)) < CHANGE_SIZE) (checked_start (unit_of bound) bound) start_is (values_of bound) d starts;
       steps = first.fit;
       goal = last.small;
       is =
-          last.is ∙ ap (λ xs. each_once same_subgoal xs (all_subgoals (facts_of bound) (terms_of bound) (unit_of bound) bound.goal)) first.is
-          ∙ sym (once_append same_subgoal [] (all_subgoals (facts_of bound) (terms_of bound) (unit_of bound) (needs_of bound.steps)) (all_subgoals (facts_of bound) (terms_of bound) (unit_of bound) bound.goal))
-          ∙ ap (each_once same_subgoal []) (sym (flat_map-append (subgoals_in (facts_of bound) (terms_of bound) (unit_of bound)) (needs_of bound.steps) bound.goal));
+          last.is ∙ ap (λ xs. each_once same_subgoal xs (all_subgoals (facts_of bound) (values_of bound) (unit_of bound) bound.goal)) first.is
+          ∙ sym (once_append same_subgoal [] (all_subgoals (facts_of bound) (values_of bound) (unit_of bound) (needs_of bound.steps)) (all_subgoals (facts_of bound) (values_of bound) (unit_of bound) bound.goal))
+          ∙ ap (each_once same_subgoal []) (sym (flat_map-append (subgoals_in (facts_of bound) (values_of bound) (unit_of bound)) (needs_of bound.steps) bound.goal));
       few_subgoals = last.few;
     })))))
   where
     none : 0 ≤ MOST_SUBGOALS
     none = omega arith
 
-    start_is : (t : Term) (u : Unit {0}) → checked_start (unit_of bound) bound t ≡ Ok u → unsigned_abs (scaled (unit_of bound) (number_on bound.values t)) < CHANGE_SIZE
-    start_is t u e = ltb-true (unsigned_abs (scaled (unit_of bound) (number_on bound.values t))) CHANGE_SIZE (unless_ok _ (NumberWide (Value t)) u e)
+    start_is : (t : Term) (u : Unit {0}) → checked_start (unit_of bound) bound t ≡ Ok u → unsigned_abs (scaled_number (unit_of bound) (number_on bound.values t)) < CHANGE_SIZE
+    start_is t u e = ltb-true (unsigned_abs (scaled_number (unit_of bound) (number_on bound.values t))) CHANGE_SIZE (unless_ok _ (NumberWide (Value t)) u e)
 
 -- a flat task that is answered: it is that of the definitions, and the bound task is within all limits
 pub record IsScaled (bound : BoundParts) (flat : Parts) : Type 0 where
@@ -271,5 +271,5 @@ pub record IsScaled (bound : BoundParts) (flat : Parts) : Type 0 where
 pub scaled_task : (bound : BoundParts) (flat : Parts) → scale_task bound ≡ Ok flat → IsScaled bound flat
 unfolding scale_task
 scaled_task bound flat e =
-    goes_on (checked bound) (λ known. Ok (flat_of bound)) flat e (λ known all last.
+    goes_on (subgoals_within_limits bound) (λ known. Ok (flat_of bound)) flat e (λ known all last.
     record { known = known; within = within_limits bound known all; is = sym (same_Ok (flat_of bound) flat last) })

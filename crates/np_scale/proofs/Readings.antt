@@ -18,9 +18,9 @@ use Rattle.np_bind.specs.declared.bound.BoundCond.{BoundCond}
 use Rattle.np_bind.specs.declared.bound.BoundCond.TheVariants.{Compare}
 use Rattle.np_bind.specs.declared.bound.BoundParts.{BoundParts}
 use Rattle.np_bind.specs.BoundTasks.{IsLinear, IsCondition, IsKept, IsBound}
-use Rattle.np_scale.specs.Tables.{conditions_of, atoms_in, terms_in, facts_of, terms_of, number_of}
+use Rattle.np_scale.specs.Tables.{conditions_of, atoms_in, terms_in, facts_of, values_of, number_of}
 use Rattle.np_scale.specs.Wholes.{unit_of}
-use Rattle.np_scale.specs.Forms.{sides_of, negated_sum, subgoals_in}
+use Rattle.np_scale.specs.Forms.{inequalities_of, negated_sum, subgoals_in}
 use Rattle.np_scale.specs.FlatOf.{same_subgoal, all_subgoals, numbers_of}
 use Rattle.np_scale.proofs.Every.{each_weaker, each_map, each_unmap, each_append, each_front, each_back, each_flat, each_flat_from, each_both, first_differs, others_distinct}
 use Rattle.np_scale.proofs.Once.{each_in_once, same_number}
@@ -36,12 +36,12 @@ pub record IsRead (facts : List model.Atom) (terms : List Term) (c : BoundCond) 
 -- a condition of a bound task whose atoms and terms have numbers
 pub record IsFound (bound : BoundParts) (c : BoundCond) : Type 0 where
   pub condition : IsCondition bound.values c
-  pub read : IsRead (facts_of bound) (terms_of bound) c
+  pub read : IsRead (facts_of bound) (values_of bound) c
 
 -- the subgoals that a condition comes to have numbers
 abbrev pub AreNumbered : BoundParts → BoundCond → Type 0
 AreNumbered bound c =
-    AllByRecursion (λ q. list_any (same_subgoal q) (numbers_of bound).subgoals ≡ true) (subgoals_in (facts_of bound) (terms_of bound) (unit_of bound) c)
+    AllByRecursion (λ q. list_any (same_subgoal q) (numbers_of bound).subgoals ≡ true) (subgoals_in (facts_of bound) (values_of bound) (unit_of bound) c)
 
 -- ---- all conditions of a bound task
 
@@ -53,24 +53,24 @@ conditions_are bound is =
     bound.steps (recursion_from_All (IsKept bound.values) bound.steps is.steps)))
     (recursion_from_All (IsCondition bound.values) bound.goal is.goal)
 
-conditions_read : (bound : BoundParts) → AllByRecursion (IsRead (facts_of bound) (terms_of bound)) (conditions_of bound)
+conditions_read : (bound : BoundParts) → AllByRecursion (IsRead (facts_of bound) (values_of bound)) (conditions_of bound)
 conditions_read bound =
     each_weaker
-    (λ c. AllByRecursion (λ a. is_among (facts_of bound) a ≡ true) (atoms_in c) × AllByRecursion (λ t. list_any (same_term t) (terms_of bound) ≡ true) (terms_in c))
-    (IsRead (facts_of bound) (terms_of bound)) (λ c both. record { atoms = both.0; terms_there = both.1 }) (conditions_of bound)
-    (each_both (λ c. AllByRecursion (λ a. is_among (facts_of bound) a ≡ true) (atoms_in c)) (λ c. AllByRecursion (λ t. list_any (same_term t) (terms_of bound) ≡ true) (terms_in c)) (conditions_of bound)
+    (λ c. AllByRecursion (λ a. is_among (facts_of bound) a ≡ true) (atoms_in c) × AllByRecursion (λ t. list_any (same_term t) (values_of bound) ≡ true) (terms_in c))
+    (IsRead (facts_of bound) (values_of bound)) (λ c both. record { atoms = both.0; terms_there = both.1 }) (conditions_of bound)
+    (each_both (λ c. AllByRecursion (λ a. is_among (facts_of bound) a ≡ true) (atoms_in c)) (λ c. AllByRecursion (λ t. list_any (same_term t) (values_of bound) ≡ true) (terms_in c)) (conditions_of bound)
     (each_flat (λ a. is_among (facts_of bound) a ≡ true) atoms_in (conditions_of bound) (each_in_once same_atom same_atom-Decides (flat_map atoms_in (conditions_of bound))))
-    (each_flat (λ t. list_any (same_term t) (terms_of bound) ≡ true) terms_in (conditions_of bound) (each_in_once same_term same_term-Decides (flat_map terms_in (conditions_of bound)))))
+    (each_flat (λ t. list_any (same_term t) (values_of bound) ≡ true) terms_in (conditions_of bound) (each_in_once same_term same_term-Decides (flat_map terms_in (conditions_of bound)))))
 
 pub conditions_found : (bound : BoundParts) → IsBound bound → AllByRecursion (IsFound bound) (conditions_of bound)
 conditions_found bound is =
-    each_weaker (λ c. IsCondition bound.values c × IsRead (facts_of bound) (terms_of bound) c) (IsFound bound) (λ c both. record { condition = both.0; read = both.1 }) (conditions_of bound)
-    (each_both (IsCondition bound.values) (IsRead (facts_of bound) (terms_of bound)) (conditions_of bound) (conditions_are bound is) (conditions_read bound))
+    each_weaker (λ c. IsCondition bound.values c × IsRead (facts_of bound) (values_of bound) c) (IsFound bound) (λ c both. record { condition = both.0; read = both.1 }) (conditions_of bound)
+    (each_both (IsCondition bound.values) (IsRead (facts_of bound) (values_of bound)) (conditions_of bound) (conditions_are bound is) (conditions_read bound))
 
 pub conditions_numbered : (bound : BoundParts) → AllByRecursion (AreNumbered bound) (conditions_of bound)
 conditions_numbered bound =
-    each_flat (λ q. list_any (same_subgoal q) (numbers_of bound).subgoals ≡ true) (subgoals_in (facts_of bound) (terms_of bound) (unit_of bound)) (conditions_of bound)
-    (each_in_once same_subgoal same_subgoal-Decides (all_subgoals (facts_of bound) (terms_of bound) (unit_of bound) (conditions_of bound)))
+    each_flat (λ q. list_any (same_subgoal q) (numbers_of bound).subgoals ≡ true) (subgoals_in (facts_of bound) (values_of bound) (unit_of bound)) (conditions_of bound)
+    (each_in_once same_subgoal same_subgoal-Decides (all_subgoals (facts_of bound) (values_of bound) (unit_of bound) (conditions_of bound)))
 
 -- what holds of all conditions holds of those of each step, and of the goal
 pub of_steps : (P : BoundCond → Type 0) (bound : BoundParts) → AllByRecursion P (conditions_of bound) → AllByRecursion (λ b. AllByRecursion P b.needs) bound.steps
@@ -90,7 +90,7 @@ pub record IsSide (terms : List Term) (l : Linear) : Type 0 where
 pub negated_twice : (x : Fraction) → negated (negated x) ≡ x
 negated_twice x = minus_swapped (whole (pos 0)) x ∙ minus_zero x
 
-negated_some : (x : Fraction) → is_zero x ≡ false → is_zero (negated x) ≡ false
+pub negated_some : (x : Fraction) → is_zero x ≡ false → is_zero (negated x) ≡ false
 negated_some x some = some_from (negated x) (λ e. other_from x some (sym (negated_twice x) ∙ ap negated e ∙ minus_self (whole (pos 0))))
 
 side_of : (values : List (Term × Fraction)) (terms : List Term) (l : Linear) → IsLinear values l → AllByRecursion (λ t. list_any (same_term t) terms ≡ true) (map (λ t. t.0) l.terms) → IsSide terms l
@@ -111,15 +111,15 @@ negated_side terms l is = record {
   some = each_map (λ t. is_zero t.1 ≡ false) (λ t. (t.0, negated t.1)) l.terms (each_weaker (λ t. is_zero t.1 ≡ false) (λ t. is_zero (negated t.1) ≡ false) (λ t some. negated_some t.1 some) l.terms is.some);
 }
 
-sides_from : (terms : List Term) (op : Op) (l : Linear) → IsSide terms l → AllByRecursion (λ side. IsSide terms side.1) (sides_of op l)
+sides_from : (terms : List Term) (op : Op) (l : Linear) → IsSide terms l → AllByRecursion (λ side. IsSide terms side.1) (inequalities_of op l)
 sides_from terms AtLeast l is = (is, tt)
 sides_from terms Greater l is = (is, tt)
 sides_from terms AtMost l is = (negated_side terms l is, tt)
 sides_from terms Less l is = (negated_side terms l is, tt)
 sides_from terms Equal l is = (is, (negated_side terms l is, tt))
 
-pub sides_are : (bound : BoundParts) (op : Op) (l : Linear) → IsFound bound (Compare op l) → AllByRecursion (λ side. IsSide (terms_of bound) side.1) (sides_of op l)
-sides_are bound op l found = sides_from (terms_of bound) op l (side_of bound.values (terms_of bound) l found.condition found.read.terms_there)
+pub sides_are : (bound : BoundParts) (op : Op) (l : Linear) → IsFound bound (Compare op l) → AllByRecursion (λ side. IsSide (values_of bound) side.1) (inequalities_of op l)
+sides_are bound op l found = sides_from (values_of bound) op l (side_of bound.values (values_of bound) l found.condition found.read.terms_there)
 
 -- ---- numbers of terms
 

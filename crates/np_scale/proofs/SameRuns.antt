@@ -18,7 +18,7 @@ use Rattle.np_bind.specs.BoundPlans.{bound_start}
 use Rattle.np_bind.specs.Laws as bound_laws
 use Rattle.np_bind.proofs.SameRuns as bound_runs
 use Rattle.np_bind.proofs.BoundIsBound.{bound_is_bound}
-use Rattle.np_scale.specs.FlatOf.{Numbers, numbers_of, flat_step, flat_start, flat_with}
+use Rattle.np_scale.specs.FlatOf.{FlatTables, numbers_of, flat_step, flat_start, flat_with}
 use Rattle.np_scale.specs.Scaling.{scale_task}
 use Rattle.np_scale.specs.Laws.{HasFlatRun, HasRun, SameRunsOf, SameRuns, SamePlans, PlansCostWhole}
 use Rattle.np_scale.proofs.FlatRuns.{AreImages, numbers_of_run, steps_of_run}
@@ -27,7 +27,7 @@ use Rattle.np_scale.proofs.ExactNumbers.{flat_is, exact_numbers}
 
 -- ---- runs
 
-module _ (task : TaskParts) (bound : BoundParts) (n : Numbers) (once : AreDistinct (map (λ b. b.step) bound.steps))
+module _ (task : TaskParts) (bound : BoundParts) (n : FlatTables) (once : AreDistinct (map (λ b. b.step) bound.steps))
     (same : (steps : List Step) → bound_laws.SameRun task bound steps) (h : HasExactNumbers n bound) where
   images : AreImages (flat_with n bound) bound.steps (flat_step n)
   images = record { steps = refl; each = step_image n bound h }

@@ -16,7 +16,7 @@ use Rattle.np_bind.specs.declared.bound.BoundCond.{BoundCond}
 use Rattle.np_bind.specs.BoundPlans.{bound_holds}
 use Rattle.np_scale.specs.Tables.{number_of}
 use Rattle.np_scale.specs.Forms.{subgoals_in}
-use Rattle.np_scale.specs.FlatOf.{Numbers, same_subgoal, all_subgoals, subgoal_numbers}
+use Rattle.np_scale.specs.FlatOf.{FlatTables, same_subgoal, all_subgoals, subgoal_numbers}
 use Rattle.np_scale.proofs.Every.{each_flat_from}
 use Rattle.np_scale.proofs.Once.{number_names}
 use Rattle.np_scale.proofs.SameSubgoals.{same_subgoal-Decides}
@@ -82,7 +82,7 @@ all_agree facts terms unit s f (c ∷ cs) agree =
     ∙ sym (list_all-append (subgoal_holds f) (subgoals_in facts terms unit c) (all_subgoals facts terms unit cs))
 
 -- conditions hold exactly where their numbers do
-pub hold_by_number : (n : Numbers) (flat : Parts) (s : State) (f : FlatState) (cs : List BoundCond) → flat.subgoals ≡ n.subgoals
+pub hold_by_number : (n : FlatTables) (flat : Parts) (s : State) (f : FlatState) (cs : List BoundCond) → flat.subgoals ≡ n.subgoals
     → AllByRecursion (Agrees n.facts n.terms n.unit s f) cs → AllByRecursion (λ c. AreListed n.subgoals (subgoals_in n.facts n.terms n.unit c)) cs
     → list_all (bound_holds s) cs ≡ list_all (holds flat f) (subgoal_numbers n cs)
 hold_by_number n flat s f cs table agree listed =

@@ -12,7 +12,7 @@ use Rattle.np_frac.specs.Ring.{var, nat, mul, ring}
 use Rattle.np_frac.specs.Laws.{den_of, over_same, times_parts}
 use Rattle.np_frac.specs.Field.{whole_num, whole_den}
 use Rattle.np_frac.specs.Quotients.{made_whole}
-use Rattle.np_scale.specs.Tables.{terms_of}
+use Rattle.np_scale.specs.Tables.{values_of}
 use Rattle.np_scale.specs.Wholes.{lcm_of, all_numbers}
 use Rattle.np_scale.specs.Laws.{IsUnit, UnitIsUnit}
 use Rattle.np_scale.proofs.Every.{each_weaker, each_unmap, each_map}
@@ -65,4 +65,4 @@ lcm_is_unit xs = record {
 }
 
 pub unit_is_unit : UnitIsUnit
-unit_is_unit bound = lcm_is_unit (all_numbers bound (terms_of bound))
+unit_is_unit bound = lcm_is_unit (all_numbers bound (values_of bound))

@@ -18,8 +18,8 @@ use Rattle.np_linear.specs.Linears.{zero}
 use Rattle.np_bind.specs.declared.bound.BoundStep.{BoundStep}
 use Rattle.np_bind.specs.declared.bound.BoundParts.{BoundParts}
 use Rattle.np_bind.specs.Grounding.{number_on}
-use Rattle.np_scale.specs.Tables.{terms_of}
-use Rattle.np_scale.specs.Wholes.{lcm_of, all_numbers, unit_of, scaled}
+use Rattle.np_scale.specs.Tables.{values_of}
+use Rattle.np_scale.specs.Wholes.{lcm_of, all_numbers, unit_of, scaled_number}
 use Rattle.np_scale.proofs.Every.{each_weaker, each_unmap, each_front, each_back, each_flat, each_all}
 use Rattle.np_scale.proofs.Multiples.{each_divides, lcm_of_pos}
 use Rattle.np_scale.proofs.Positive.{above_some, whole_above, times_some, some_num}
@@ -29,11 +29,11 @@ pub whole_of : (x : Fraction) (n : ℤ) → whole n ≡ x → whole x.num ≡ x
 whole_of x n e = subst (λ (y : Fraction). whole y.num ≡ y) e (ap whole (whole_num n))
 
 -- a scaled number is the unit times the number
-pub scaled_whole : (unit : ℕ) (x : Fraction) → x.den ∣ unit → whole (scaled unit x) ≡ times (whole (pos unit)) x
+pub scaled_whole : (unit : ℕ) (x : Fraction) → x.den ∣ unit → whole (scaled_number unit x) ≡ times (whole (pos unit)) x
 scaled_whole unit x h = whole_of (times (whole (pos unit)) x) (x.num *ℤ pos (unit / x.den)) (made_whole x unit h)
 
 -- and isn't 0 where the number isn't
-pub scaled_some : (unit : ℕ) (x : Fraction) → 0 < unit → is_zero x ≡ false → scaled unit x ≢ pos 0
+pub scaled_some : (unit : ℕ) (x : Fraction) → 0 < unit → is_zero x ≡ false → scaled_number unit x ≢ pos 0
 scaled_some unit x h some =
     some_num (times (whole (pos unit)) x) (times_some (whole (pos unit)) x (above_some (whole (pos unit)) (whole_above unit h)) some)
 
@@ -47,19 +47,19 @@ dens_above [] = tt
 dens_above (x ∷ xs) = (den_of x, dens_above xs)
 
 pub unit_above : (bound : BoundParts) → 0 < unit_of bound
-unit_above bound = lcm_of_pos (map (λ x. x.den) (all_numbers bound (terms_of bound))) (dens_above (all_numbers bound (terms_of bound)))
+unit_above bound = lcm_of_pos (map (λ x. x.den) (all_numbers bound (values_of bound))) (dens_above (all_numbers bound (values_of bound)))
 
 abbrev changes_on : List Term → BoundStep → List Fraction
 changes_on terms b = map (λ c. c.1) (filter (λ c. list_any (same_term c.0) terms) b.changes)
 
-all_divide : (bound : BoundParts) → AllByRecursion (λ x. x.den ∣ unit_of bound) (map (number_on bound.values) (terms_of bound) ++ flat_map (changes_on (terms_of bound)) bound.steps)
-all_divide bound = dens_divide (all_numbers bound (terms_of bound))
+pub all_divide : (bound : BoundParts) → AllByRecursion (λ x. x.den ∣ unit_of bound) (map (number_on bound.values) (values_of bound) ++ flat_map (changes_on (values_of bound)) bound.steps)
+all_divide bound = dens_divide (all_numbers bound (values_of bound))
 
 -- it is a multiple of the denominators of the start values
-pub unit_of_starts : (bound : BoundParts) → AllByRecursion (λ t. (number_on bound.values t).den ∣ unit_of bound) (terms_of bound)
+pub unit_of_starts : (bound : BoundParts) → AllByRecursion (λ t. (number_on bound.values t).den ∣ unit_of bound) (values_of bound)
 unit_of_starts bound =
-    each_unmap (λ (x : Fraction). x.den ∣ unit_of bound) (number_on bound.values) (terms_of bound)
-    (each_front (λ (x : Fraction). x.den ∣ unit_of bound) (map (number_on bound.values) (terms_of bound)) (flat_map (changes_on (terms_of bound)) bound.steps) (all_divide bound))
+    each_unmap (λ (x : Fraction). x.den ∣ unit_of bound) (number_on bound.values) (values_of bound)
+    (each_front (λ (x : Fraction). x.den ∣ unit_of bound) (map (number_on bound.values) (values_of bound)) (flat_map (changes_on (values_of bound)) bound.steps) (all_divide bound))
 
 -- a change on a term of the task
 change_divides : (terms : List Term) (unit : ℕ) (cs : List (Term × Fraction)) (t : Term) → list_any (same_term t) terms ≡ true
@@ -78,29 +78,29 @@ change_divides terms unit (c ∷ cs) t there all =
     by false other false dropped here rest = rest here
 
 -- and of those of the net changes on values
-pub unit_of_changes : (bound : BoundParts) → AllByRecursion (λ b. (t : Term) → list_any (same_term t) (terms_of bound) ≡ true → (number_on b.changes t).den ∣ unit_of bound) bound.steps
+pub unit_of_changes : (bound : BoundParts) → AllByRecursion (λ b. (t : Term) → list_any (same_term t) (values_of bound) ≡ true → (number_on b.changes t).den ∣ unit_of bound) bound.steps
 unit_of_changes bound =
     each_weaker
-    (λ b. AllByRecursion (λ (x : Fraction). x.den ∣ unit_of bound) (changes_on (terms_of bound) b))
-    (λ b. (t : Term) → list_any (same_term t) (terms_of bound) ≡ true → (number_on b.changes t).den ∣ unit_of bound)
-    (λ b all t there. change_divides (terms_of bound) (unit_of bound) b.changes t there
-    (each_unmap (λ (x : Fraction). x.den ∣ unit_of bound) (λ c. c.1) (filter (λ c. list_any (same_term c.0) (terms_of bound)) b.changes) all))
+    (λ b. AllByRecursion (λ (x : Fraction). x.den ∣ unit_of bound) (changes_on (values_of bound) b))
+    (λ b. (t : Term) → list_any (same_term t) (values_of bound) ≡ true → (number_on b.changes t).den ∣ unit_of bound)
+    (λ b all t there. change_divides (values_of bound) (unit_of bound) b.changes t there
+    (each_unmap (λ (x : Fraction). x.den ∣ unit_of bound) (λ c. c.1) (filter (λ c. list_any (same_term c.0) (values_of bound)) b.changes) all))
     bound.steps
-    (each_flat (λ (x : Fraction). x.den ∣ unit_of bound) (changes_on (terms_of bound)) bound.steps
-    (each_back (λ (x : Fraction). x.den ∣ unit_of bound) (map (number_on bound.values) (terms_of bound)) (flat_map (changes_on (terms_of bound)) bound.steps) (all_divide bound)))
+    (each_flat (λ (x : Fraction). x.den ∣ unit_of bound) (changes_on (values_of bound)) bound.steps
+    (each_back (λ (x : Fraction). x.den ∣ unit_of bound) (map (number_on bound.values) (values_of bound)) (flat_map (changes_on (values_of bound)) bound.steps) (all_divide bound)))
 
 -- ---- so scaled numbers are whole
 
-pub start_whole : (bound : BoundParts) (t : Term) → list_any (same_term t) (terms_of bound) ≡ true
-    → whole (scaled (unit_of bound) (number_on bound.values t)) ≡ times (whole (pos (unit_of bound))) (number_on bound.values t)
+pub start_whole : (bound : BoundParts) (t : Term) → list_any (same_term t) (values_of bound) ≡ true
+    → whole (scaled_number (unit_of bound) (number_on bound.values t)) ≡ times (whole (pos (unit_of bound))) (number_on bound.values t)
 start_whole bound t there =
-    scaled_whole (unit_of bound) (number_on bound.values t) (each_all same_term same_term-Decides (λ u. (number_on bound.values u).den ∣ unit_of bound) (terms_of bound) (unit_of_starts bound) t there)
+    scaled_whole (unit_of bound) (number_on bound.values t) (each_all same_term same_term-Decides (λ u. (number_on bound.values u).den ∣ unit_of bound) (values_of bound) (unit_of_starts bound) t there)
 
-pub changes_whole : (bound : BoundParts) → AllByRecursion (λ b. (t : Term) → list_any (same_term t) (terms_of bound) ≡ true
-    → whole (scaled (unit_of bound) (number_on b.changes t)) ≡ times (whole (pos (unit_of bound))) (number_on b.changes t)) bound.steps
+pub changes_whole : (bound : BoundParts) → AllByRecursion (λ b. (t : Term) → list_any (same_term t) (values_of bound) ≡ true
+    → whole (scaled_number (unit_of bound) (number_on b.changes t)) ≡ times (whole (pos (unit_of bound))) (number_on b.changes t)) bound.steps
 changes_whole bound =
     each_weaker
-    (λ b. (t : Term) → list_any (same_term t) (terms_of bound) ≡ true → (number_on b.changes t).den ∣ unit_of bound)
-    (λ b. (t : Term) → list_any (same_term t) (terms_of bound) ≡ true → whole (scaled (unit_of bound) (number_on b.changes t)) ≡ times (whole (pos (unit_of bound))) (number_on b.changes t))
+    (λ b. (t : Term) → list_any (same_term t) (values_of bound) ≡ true → (number_on b.changes t).den ∣ unit_of bound)
+    (λ b. (t : Term) → list_any (same_term t) (values_of bound) ≡ true → whole (scaled_number (unit_of bound) (number_on b.changes t)) ≡ times (whole (pos (unit_of bound))) (number_on b.changes t))
     (λ b divides t there. scaled_whole (unit_of bound) (number_on b.changes t) (divides t there))
     bound.steps (unit_of_changes bound)

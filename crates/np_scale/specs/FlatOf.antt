@@ -18,8 +18,8 @@ use Rattle.np_flat.specs.declared.parts.FlatStep.{FlatStep}
 use Rattle.np_flat.specs.declared.parts.Parts.{Parts}
 use Rattle.np_flat.specs.States.{put_all}
 use Rattle.np_flat.specs.Same.{same_form}
-use Rattle.np_scale.specs.Tables.{each_once, number_of, conditions_of, facts_of, terms_of}
-use Rattle.np_scale.specs.Wholes.{unit_of, scaled}
+use Rattle.np_scale.specs.Tables.{each_once, number_of, conditions_of, facts_of, values_of}
+use Rattle.np_scale.specs.Wholes.{unit_of, scaled_number}
 use Rattle.np_scale.specs.Forms.{subgoals_in}
 
 -- whether two subgoals are the same
@@ -35,7 +35,7 @@ same_subgoal (subgoal.Form f) (subgoal.NotFact q) = false
 same_subgoal (subgoal.Form f) (subgoal.Form g) = same_form f g
 
 -- the numbers of a flat task: its facts, values, unit and subgoals
-pub record Numbers : Type 0 where
+pub record FlatTables : Type 0 where
   pub facts : List model.Atom
   pub terms : List Term
   pub unit : ℕ
@@ -46,20 +46,20 @@ abbrev pub all_subgoals : List model.Atom → List Term → ℕ → List BoundCo
 all_subgoals facts terms unit conditions = flat_map (subgoals_in facts terms unit) conditions
 
 -- the numbers of a bound task's flat task, each subgoal by its first reading
-abbrev pub numbers_of : BoundParts → Numbers
+abbrev pub numbers_of : BoundParts → FlatTables
 numbers_of bound = record {
   facts = facts_of bound;
-  terms = terms_of bound;
+  terms = values_of bound;
   unit = unit_of bound;
-  subgoals = each_once same_subgoal [] (all_subgoals (facts_of bound) (terms_of bound) (unit_of bound) (conditions_of bound));
+  subgoals = each_once same_subgoal [] (all_subgoals (facts_of bound) (values_of bound) (unit_of bound) (conditions_of bound));
 }
 
 -- the numbers of the subgoals of conditions, ascending
-abbrev pub subgoal_numbers : Numbers → List BoundCond → List ℕ
+abbrev pub subgoal_numbers : FlatTables → List BoundCond → List ℕ
 subgoal_numbers n conditions = put_all (map (number_of same_subgoal n.subgoals) (all_subgoals n.facts n.terms n.unit conditions)) []
 
 -- the numbers of those atoms that are facts, ascending
-abbrev pub fact_numbers : Numbers → List model.Atom → List ℕ
+abbrev pub fact_numbers : FlatTables → List model.Atom → List ℕ
 fact_numbers n atoms = put_all (map (number_of same_atom n.facts) (filter (is_among n.facts) atoms)) []
 
 -- the scaled net changes on the values from this number on, where they aren't 0
@@ -67,10 +67,10 @@ abbrev pub changes_from : ℕ → ℕ → List (Term × Fraction) → List Term 
 changes_from unit k changes [] = []
 changes_from unit k changes (t ∷ ts) =
     if is_zero (number_on changes t) then changes_from unit (suc k) changes ts
-    else ((k, scaled unit (number_on changes t)) ∷ changes_from unit (suc k) changes ts)
+    else ((k, scaled_number unit (number_on changes t)) ∷ changes_from unit (suc k) changes ts)
 
 -- a flat step; what it adds it doesn't delete
-abbrev pub flat_step : Numbers → BoundStep → FlatStep
+abbrev pub flat_step : FlatTables → BoundStep → FlatStep
 flat_step n b = record {
   step = b.step;
   needs = subgoal_numbers n b.needs;
@@ -81,14 +81,14 @@ flat_step n b = record {
 }
 
 -- the start
-abbrev pub flat_start : Numbers → BoundParts → FlatState
+abbrev pub flat_start : FlatTables → BoundParts → FlatState
 flat_start n bound = record {
   facts = fact_numbers n bound.atoms;
-  values = map (λ t. scaled n.unit (number_on bound.values t)) n.terms;
+  values = map (λ t. scaled_number n.unit (number_on bound.values t)) n.terms;
 }
 
 -- the flat task with these numbers
-abbrev pub flat_with : Numbers → BoundParts → Parts
+abbrev pub flat_with : FlatTables → BoundParts → Parts
 flat_with n bound = record {
   unit = pos n.unit;
   facts = n.facts;

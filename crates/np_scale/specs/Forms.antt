@@ -21,16 +21,16 @@ abbrev pub negated_sum : Linear → Linear
 negated_sum l = record { constant = negated l.constant; terms = map (λ t. (t.0, negated t.1)) l.terms }
 
 -- that a linear sum is to be at least 0, or above 0 where the flag is set
-abbrev pub Side : Type 0
-Side = Bool × Linear
+abbrev pub Inequality : Type 0
+Inequality = Bool × Linear
 
 -- what a comparison with 0 comes to; equality to two, in this order
-abbrev pub sides_of : Op → Linear → List Side
-sides_of AtLeast l = (false, l) ∷ []
-sides_of Greater l = (true, l) ∷ []
-sides_of AtMost l = (false, negated_sum l) ∷ []
-sides_of Less l = (true, negated_sum l) ∷ []
-sides_of Equal l = (false, l) ∷ (false, negated_sum l) ∷ []
+abbrev pub inequalities_of : Op → Linear → List Inequality
+inequalities_of AtLeast l = (false, l) ∷ []
+inequalities_of Greater l = (true, l) ∷ []
+inequalities_of AtMost l = (false, negated_sum l) ∷ []
+inequalities_of Less l = (true, negated_sum l) ∷ []
+inequalities_of Equal l = (false, l) ∷ (false, negated_sum l) ∷ []
 
 -- a pair in its place by number
 abbrev pub in_place : {A : Type 0} → ℕ × A → List (ℕ × A) → List (ℕ × A)
@@ -38,13 +38,13 @@ in_place x [] = x ∷ []
 in_place x (y ∷ ys) = if nat_lt x.0 y.0 then x ∷ y ∷ ys else y ∷ in_place x ys
 
 -- pairs by ascending number
-abbrev pub ascending : {A : Type 0} → List (ℕ × A) → List (ℕ × A)
-ascending [] = []
-ascending (x ∷ xs) = in_place x (ascending xs)
+abbrev pub by_number : {A : Type 0} → List (ℕ × A) → List (ℕ × A)
+by_number [] = []
+by_number (x ∷ xs) = in_place x (by_number xs)
 
 -- the coefficients of a linear sum by ascending number of their values
 abbrev pub coefficients_of : List Term → Linear → List (ℕ × Fraction)
-coefficients_of terms l = ascending (map (λ t. (number_of same_term terms t.0, t.1)) l.terms)
+coefficients_of terms l = by_number (map (λ t. (number_of same_term terms t.0, t.1)) l.terms)
 
 -- the factor of its form
 abbrev pub factor_on : List Term → Linear → Fraction
@@ -60,15 +60,15 @@ constant_from false e = rounded_down e
 constant_from true e = rounded_up e -ℤ pos 1
 
 -- the whole form
-abbrev pub form_of : List Term → ℕ → Side → Form
+abbrev pub form_of : List Term → ℕ → Inequality → Form
 form_of terms unit side = record {
   constant = constant_from side.0 (exact_constant terms unit side.1);
   terms = map (λ c. (c.0, whole_times (factor_on terms side.1) c.1)) (coefficients_of terms side.1);
 }
 
 -- the form that is never at least 0
-abbrev pub never : Form
-never = record { constant = negsuc 0; terms = [] }
+abbrev pub never_form : Form
+never_form = record { constant = negsuc 0; terms = [] }
 
 -- an atom as a subgoal
 abbrev pub literal_of : List model.Atom → Bool → model.Atom → Subgoal
@@ -78,5 +78,5 @@ literal_of facts false a = subgoal.NotFact (number_of same_atom facts a)
 -- the subgoals that a condition comes to, where facts and values have these numbers
 abbrev pub subgoals_in : List model.Atom → List Term → ℕ → BoundCond → List Subgoal
 subgoals_in facts terms unit (Atom positive a) = literal_of facts positive a ∷ []
-subgoals_in facts terms unit (Compare op l) = map (λ side. subgoal.Form (form_of terms unit side)) (sides_of op l)
-subgoals_in facts terms unit Never = subgoal.Form never ∷ []
+subgoals_in facts terms unit (Compare op l) = map (λ side. subgoal.Form (form_of terms unit side)) (inequalities_of op l)
+subgoals_in facts terms unit Never = subgoal.Form never_form ∷ []

@@ -15,7 +15,7 @@ use Rattle.np_flat.specs.Plans.{step_at, cost_sum}
 use Rattle.np_flat.specs.Plans as flat_plans
 use Rattle.np_bind.specs.declared.bound.BoundParts.{BoundParts}
 use Rattle.np_bind.specs.BoundTasks.{IsBound}
-use Rattle.np_scale.specs.Tables.{terms_of}
+use Rattle.np_scale.specs.Tables.{values_of}
 use Rattle.np_scale.specs.Wholes.{all_numbers, unit_of, factor_of}
 use Rattle.np_scale.specs.Scaling.{scale_task, IsFlatTaskOf}
 use Rattle.np_scale.specs.Same.{StandsFor}
@@ -28,7 +28,7 @@ pub record IsUnit (unit : ℕ) (numbers : List Fraction) : Type 0 where
   pub least : (m : ℕ) → All (λ x. (times (whole (pos m)) x).den ≡ 1) numbers → unit ∣ m
 
 abbrev pub UnitIsUnit : Type 0
-UnitIsUnit = (bound : BoundParts) → IsUnit (unit_of bound) (all_numbers bound (terms_of bound))
+UnitIsUnit = (bound : BoundParts) → IsUnit (unit_of bound) (all_numbers bound (values_of bound))
 
 -- ---- whole coefficients
 

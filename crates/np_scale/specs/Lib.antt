@@ -4,5 +4,8 @@ pub mod Forms
 pub mod FlatOf
 pub mod Limits
 pub mod Scaling
+pub mod Answers
 pub mod Same
 pub mod Laws
+pub mod Code
+pub mod ScaledParts

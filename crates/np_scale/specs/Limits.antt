@@ -20,9 +20,9 @@ use Rattle.np_flat.specs.declared.parts.Subgoal.{Subgoal}
 use Rattle.np_flat.specs.declared.parts.Subgoal.TheVariants as subgoal
 use Rattle.np_scale.specs.declared.fault.ScaleFault.{ScaleFault}
 use Rattle.np_scale.specs.declared.fault.ScaleFault.TheVariants.{TooManyFacts, TooManyValues, TooManySubgoals, UnitWide, NumberWide, FormLong, CostNegative, CostNotWhole, CostWide}
-use Rattle.np_scale.specs.Tables.{facts_of, terms_of}
-use Rattle.np_scale.specs.Wholes.{unit_of, scaled}
-use Rattle.np_scale.specs.Forms.{Side, sides_of, coefficients_of, factor_on, form_of, literal_of, never}
+use Rattle.np_scale.specs.Tables.{facts_of, values_of}
+use Rattle.np_scale.specs.Wholes.{unit_of, scaled_number}
+use Rattle.np_scale.specs.Forms.{Inequality, inequalities_of, coefficients_of, factor_on, form_of, literal_of, never_form}
 use Rattle.np_scale.specs.FlatOf.{same_subgoal}
 
 -- nothing, or a fault
@@ -61,7 +61,7 @@ abbrev pub is_small_form : Form → Bool
 is_small_form form = is_below CONSTANT_SIZE form.constant && list_all (λ t. is_below COEFFICIENT_SIZE t.1) form.terms
 
 -- the form of a comparison's side, or its fault: too many terms come first
-abbrev pub checked_form : Spot → List Term → ℕ → Side → Result Subgoal ScaleFault
+abbrev pub checked_form : Spot → List Term → ℕ → Inequality → Result Subgoal ScaleFault
 checked_form spot terms unit side =
     and_then (unless (not (nat_lt MOST_TERMS (length side.1.terms))) (FormLong spot)) (λ _.
     and_then (unless (fractions_fit terms unit side.1 && is_small_form (form_of terms unit side)) (NumberWide spot)) (λ _.
@@ -70,8 +70,8 @@ checked_form spot terms unit side =
 -- the subgoals that a condition comes to, each with its fault
 abbrev pub checked_subgoals : Spot → List model.Atom → List Term → ℕ → BoundCond → List (Result Subgoal ScaleFault)
 checked_subgoals spot facts terms unit (Atom positive a) = Ok (literal_of facts positive a) ∷ []
-checked_subgoals spot facts terms unit (Compare op l) = map (checked_form spot terms unit) (sides_of op l)
-checked_subgoals spot facts terms unit Never = Ok (subgoal.Form never) ∷ []
+checked_subgoals spot facts terms unit (Compare op l) = map (checked_form spot terms unit) (inequalities_of op l)
+checked_subgoals spot facts terms unit Never = Ok (subgoal.Form never_form) ∷ []
 
 -- the known subgoals, and after them a new one, where there is room
 abbrev pub with_subgoal : List Subgoal → Subgoal → Result (List Subgoal) ScaleFault
@@ -91,11 +91,11 @@ with_conditions spot facts terms unit known conditions = with_subgoals known (fl
 
 -- a scaled start value
 abbrev pub checked_start : ℕ → BoundParts → Term → Checked
-checked_start unit bound t = unless (is_below CHANGE_SIZE (scaled unit (number_on bound.values t))) (NumberWide (Value t))
+checked_start unit bound t = unless (is_below CHANGE_SIZE (scaled_number unit (number_on bound.values t))) (NumberWide (Value t))
 
 -- a scaled net change
 abbrev pub checked_change : ℕ → BoundStep → Term → Checked
-checked_change unit b t = unless (is_below CHANGE_SIZE (scaled unit (number_on b.changes t))) (NumberWide (Step b.step))
+checked_change unit b t = unless (is_below CHANGE_SIZE (scaled_number unit (number_on b.changes t))) (NumberWide (Step b.step))
 
 -- a cost: not below 0, then whole, then within its limit
 abbrev pub checked_cost : BoundStep → Checked
@@ -119,8 +119,8 @@ checked_steps facts terms unit known (b ∷ bs) =
 -- ---- the whole
 
 -- the numbers of facts, of values and the unit; then start values, steps and the goal
-abbrev pub checked_with : List model.Atom → List Term → ℕ → BoundParts → Result (List Subgoal) ScaleFault
-checked_with facts terms unit bound =
+abbrev pub subgoals_within_limits_with : List model.Atom → List Term → ℕ → BoundParts → Result (List Subgoal) ScaleFault
+subgoals_within_limits_with facts terms unit bound =
     and_then (unless (not (nat_lt MOST_FACTS (length facts))) TooManyFacts) (λ _.
     and_then (unless (not (nat_lt MOST_VALUES (length terms))) TooManyValues) (λ _.
     and_then (unless (nat_lt unit CHANGE_SIZE) UnitWide) (λ _.
@@ -129,5 +129,5 @@ checked_with facts terms unit bound =
     with_conditions Goal facts terms unit known bound.goal)))))
 
 -- the subgoals of a bound task that is within all limits, or its first fault
-unfoldable pub checked : BoundParts → Result (List Subgoal) ScaleFault
-checked bound = checked_with (facts_of bound) (terms_of bound) (unit_of bound) bound
+unfoldable pub subgoals_within_limits : BoundParts → Result (List Subgoal) ScaleFault
+subgoals_within_limits bound = subgoals_within_limits_with (facts_of bound) (values_of bound) (unit_of bound) bound

@@ -7,11 +7,11 @@ use Rattle.np_bind.specs.Binding.{bind_task}
 use Rattle.np_flat.specs.declared.parts.Parts.{Parts}
 use Rattle.np_scale.specs.declared.fault.ScaleFault.{ScaleFault}
 use Rattle.np_scale.specs.FlatOf.{flat_of}
-use Rattle.np_scale.specs.Limits.{checked}
+use Rattle.np_scale.specs.Limits.{subgoals_within_limits}
 
 -- the flat task, where the bound task is within all limits
 unfoldable pub scale_task : BoundParts → Result Parts ScaleFault
-scale_task bound = and_then (checked bound) (λ _. Ok (flat_of bound))
+scale_task bound = and_then (subgoals_within_limits bound) (λ _. Ok (flat_of bound))
 
 -- the flat task of a task: that of its bound task
 pub record IsFlatTaskOf (task : TaskParts) (flat : Parts) : Type 0 where

@@ -38,5 +38,5 @@ abbrev pub facts_of : BoundParts → List model.Atom
 facts_of bound = each_once same_atom [] (flat_map atoms_in (conditions_of bound))
 
 -- the values: the terms that comparisons read
-abbrev pub terms_of : BoundParts → List Term
-terms_of bound = each_once same_term [] (flat_map terms_in (conditions_of bound))
+abbrev pub values_of : BoundParts → List Term
+values_of bound = each_once same_term [] (flat_map terms_in (conditions_of bound))

@@ -9,7 +9,7 @@ use Rattle.np_model.specs.declared.task.Term.{Term}
 use Rattle.np_model.specs.Ground.{same_term}
 use Rattle.np_bind.specs.declared.bound.BoundParts.{BoundParts}
 use Rattle.np_bind.specs.Grounding.{number_on}
-use Rattle.np_scale.specs.Tables.{terms_of}
+use Rattle.np_scale.specs.Tables.{values_of}
 
 -- the least common multiple
 abbrev pub lcm : ℕ → ℕ → ℕ
@@ -29,24 +29,24 @@ all_numbers bound terms =
 
 -- the unit: the least common multiple of the denominators of the values' start values and of the net changes on them
 abbrev pub unit_of : BoundParts → ℕ
-unit_of bound = lcm_of (map (λ x. x.den) (all_numbers bound (terms_of bound)))
+unit_of bound = lcm_of (map (λ x. x.den) (all_numbers bound (values_of bound)))
 
 -- a scaled number: the unit times the number, which is whole where the unit is a multiple of its denominator
-abbrev pub scaled : ℕ → Fraction → ℤ
-scaled unit x = (times (whole (pos unit)) x).num
+abbrev pub scaled_number : ℕ → Fraction → ℤ
+scaled_number unit x = (times (whole (pos unit)) x).num
 
 -- ---- coefficients
 
 -- the size of a fraction
-abbrev pub size_of : Fraction → Fraction
-size_of x = over (pos (unsigned_abs x.num)) x.den
+abbrev pub absolute : Fraction → Fraction
+absolute x = over (pos (unsigned_abs x.num)) x.den
 
 -- the factor by which coefficients become whole numbers without a common divisor, of the same proportions and signs: the least common
 -- multiple of the denominators of their ratios to the first one, over the first one's size
 abbrev pub factor_of : List Fraction → Fraction
 factor_of [] = whole (pos 1)
 factor_of (a ∷ more) =
-    times (whole (pos (lcm_of (map (λ b. (times b (reciprocal a)).den) (a ∷ more))))) (reciprocal (size_of a))
+    times (whole (pos (lcm_of (map (λ b. (times b (reciprocal a)).den) (a ∷ more))))) (reciprocal (absolute a))
 
 -- such a whole number
 abbrev pub whole_times : Fraction → Fraction → ℤ

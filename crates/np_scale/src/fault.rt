@@ -1,6 +1,7 @@
 //! Why a bound task has no flat task.
 use np_bind::Spot;
 use np_model::Step;
+use std::alloc::{AllocError, AllocFailed};
 
 /// Why a bound task has no flat task.
 #[derive(Debug, Drop)]
@@ -25,4 +26,26 @@ pub enum ScaleFault {
     CostWide(Step),
     /// Out of memory.
     Memory,
+}
+
+impl From<AllocError> for ScaleFault {
+    ghost use Rattle.std.specs.Prelude.{◌≡◌};
+    ghost use Rattle.np_scale.specs.declared.fault.ScaleFault.TheVariants.{Memory};
+
+    ghost from_gives = { λ _ fault. fault ≡ Memory };
+
+    fn from(_: AllocError) -> Self {
+        ScaleFault::Memory
+    }
+}
+
+impl<T: Drop> From<AllocFailed<T>> for ScaleFault {
+    ghost use Rattle.std.specs.Prelude.{◌≡◌};
+    ghost use Rattle.np_scale.specs.declared.fault.ScaleFault.TheVariants.{Memory};
+
+    ghost from_gives = { λ _ fault. fault ≡ Memory };
+
+    fn from(_: AllocFailed<T>) -> Self {
+        ScaleFault::Memory
+    }
 }

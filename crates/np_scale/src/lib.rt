@@ -5,10 +5,20 @@
 #![tactic(auto)]
 
 mod fault;
+mod form;
 mod laws;
+mod numbering;
+mod place;
+mod reading;
+mod scaling;
+mod step;
+mod subgoal;
+mod unit;
+mod whole;
 
 pub use fault::ScaleFault;
 pub use laws::{
     factor_makes_whole, flat_is_flat, plans_cost_whole, same_plans, same_runs, stands_for_one,
     unit_is_unit,
 };
+pub use scaling::scale;
