@@ -1,5 +1,6 @@
 ; A van takes crates from place to place. It needs fuel for each road and has room for so much weight, and there are pumps.
-; `run` takes this domain; `solve` and `check` don't yet, since they know the first form alone.
+; `run` takes this domain; `solve` and `check` don't yet, since they know the first form alone. `list` refuses it, since a cost of 0.25
+; isn't whole.
 ;
 ; By hand, for the problem beside it: the van can't take both crates at once, for 1.5 and 2 together are more than 2.5. So the
 ; flour goes to the town first, then the van comes back for the nails. The roads are 4, then 6 three times, which is 22 in cost

@@ -3,7 +3,7 @@ use Rattle.std.proofs.Common.{◌≡◌, ℕ, Bool, true, false, not, ◌&&◌, 
 use Rattle.std.specs.Option.{option_or}
 use Rattle.std.specs.Str.{bytes_eq}
 use Rattle.std.proofs.lemmas.Option.{same_Some}
-use Rattle.np_answers.specs.Words.{Solve, Check, Run, Command, solving, checking, running, is_apart, budget_of, solve_of, check_of, run_of, command_of}
+use Rattle.np_answers.specs.Words.{Inputs, Solve, Check, Run, Command, solving, checking, running, listing, is_apart, budget_of, solve_of, check_of, run_of, list_of, command_of}
 
 -- the names that are written differ from each other and from those that are read
 pub record AreApart (command : Solve) : Type 0 where
@@ -61,12 +61,13 @@ abbrev solve_in : Option Command → Option Solve
 solve_in (Some (solving s)) = Some s
 solve_in o = None
 
-is_solve : (o : Option Solve) (q : Option Check) (r : Option Run) (s : Solve)
-    → option_or (option_map solving o) (option_or (option_map checking q) (option_map running r)) ≡ Some (solving s) → o ≡ Some s
-is_solve None None None s e = ap solve_in e
-is_solve None None (Some r) s e = ap solve_in e
-is_solve None (Some c) r s e = ap solve_in e
-is_solve (Some t) q r s e = ap solve_in e
+is_solve : (o : Option Solve) (q : Option Check) (r : Option Run) (l : Option Inputs) (s : Solve)
+    → option_or (option_map solving o) (option_or (option_map checking q) (option_or (option_map running r) (option_map listing l))) ≡ Some (solving s) → o ≡ Some s
+is_solve None None None None s e = ap solve_in e
+is_solve None None None (Some l) s e = ap solve_in e
+is_solve None None (Some r) l s e = ap solve_in e
+is_solve None (Some c) r l s e = ap solve_in e
+is_solve (Some t) q r l s e = ap solve_in e
 
 pub solving_apart : (words : List (List ℕ)) (s : Solve) → command_of words ≡ Some (solving s) → AreApart s
-solving_apart words s e = solve_apart words s (is_solve (solve_of words) (check_of words) (run_of words) s e)
+solving_apart words s e = solve_apart words s (is_solve (solve_of words) (check_of words) (run_of words) (list_of words) s e)

@@ -7,7 +7,7 @@ use Rattle.np_answers.specs.declared.words.Check.{Check as CheckWords}
 use Rattle.np_answers.specs.declared.words.Run.{Run as RunWords}
 use Rattle.np_answers.specs.declared.words.Command.{Command as CommandWords}
 use Rattle.np_answers.specs.declared.words.Command.TheVariants as words
-use Rattle.np_answers.specs.Words.{Inputs, Solve, Check, Run, Command, solving, checking, running}
+use Rattle.np_answers.specs.Words.{Inputs, Solve, Check, Run, Command, solving, checking, running, listing}
 
 abbrev pub told_inputs : InputWords → Inputs
 told_inputs inputs = record { domain = inputs.domain.now; problem = inputs.problem.now }
@@ -33,3 +33,4 @@ abbrev pub told : CommandWords → Command
 told (words.Solve command) = solving (told_solve command)
 told (words.Check command) = checking (told_check command)
 told (words.Run command) = running (told_run command)
+told (words.List inputs) = listing (told_inputs inputs)

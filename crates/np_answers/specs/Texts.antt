@@ -13,7 +13,11 @@ use Rattle.np_cert.specs.declared.certificate.Limit.TheVariants.{Number, Absent}
 use Rattle.np_answers.specs.declared.answer.File.{File}
 use Rattle.np_answers.specs.declared.answer.File.TheVariants.{Domain, Problem, Certificate, Plan}
 use Rattle.np_answers.specs.declared.answer.refusal.Refusal.{Refusal}
-use Rattle.np_answers.specs.declared.answer.refusal.Refusal.TheVariants.{TooLong, Syntax, NumberWide, Typing, StampOrder, UnknownStep, StepWide, PairNotBuilt, CertificateNotBuilt}
+use Rattle.np_answers.specs.declared.answer.refusal.Refusal.TheVariants.{TooLong, Syntax, NumberWide, Typing, StampOrder, UnknownStep, StepWide, Task, AtSpot, PairNotBuilt, CertificateNotBuilt}
+use Rattle.np_answers.specs.declared.answer.refusal.TaskReason.{TaskReason}
+use Rattle.np_answers.specs.declared.answer.refusal.TaskReason.TheVariants as task
+use Rattle.np_answers.specs.declared.answer.refusal.SpotReason.{SpotReason}
+use Rattle.np_answers.specs.declared.answer.refusal.SpotReason.TheVariants as spot
 use Rattle.np_answers.specs.declared.answer.solve.SolveAnswer.{SolveAnswer}
 use Rattle.np_answers.specs.declared.answer.solve.SolveAnswer.TheVariants.{Optimal, Unsolvable, Spent}
 use Rattle.np_answers.specs.declared.answer.check.CheckAnswer.{CheckAnswer}
@@ -21,7 +25,7 @@ use Rattle.np_answers.specs.declared.answer.check.CheckAnswer.TheVariants.{Yes, 
 use Rattle.np_answers.specs.declared.answer.check.Fault.{Fault}
 use Rattle.np_answers.specs.declared.answer.check.Fault.TheVariants.{ProofFails, Repeats, Unjustified, ClaimAbove}
 use Rattle.np_answers.specs.declared.answer.Answer.{Answer}
-use Rattle.np_answers.specs.declared.answer.Answer.TheVariants.{Usage, CannotRead, Refused, Solved, Checked, Ran, CannotWrite, OutOfMemory}
+use Rattle.np_answers.specs.declared.answer.Answer.TheVariants.{Usage, CannotRead, Refused, Solved, Checked, Ran, Listed, CannotWrite, OutOfMemory}
 
 abbrev pub name_of : File → List ℕ
 name_of Domain = codes "domain"
@@ -54,6 +58,24 @@ rule_text why.WrongType = codes "wrong type"
 rule_text why.ValueTwice = codes "value twice"
 rule_text why.AmountNotStatic = codes "amount not static"
 
+abbrev pub task_reason_text : TaskReason → List ℕ
+task_reason_text task.TooManyBindings = codes "too many bindings"
+task_reason_text task.TooManySteps = codes "too many steps"
+task_reason_text task.TooManyFacts = codes "too many facts"
+task_reason_text task.TooManyValues = codes "too many values"
+task_reason_text task.TooManySubgoals = codes "too many subgoals"
+task_reason_text task.UnitWide = codes "unit wide"
+task_reason_text task.GoalUndefined = codes "goal undefined"
+task_reason_text task.MetricUndefined = codes "metric undefined"
+
+abbrev pub spot_reason_text : SpotReason → List ℕ
+spot_reason_text spot.NotLinear = codes "not linear"
+spot_reason_text spot.NumberWide = codes "number wide"
+spot_reason_text spot.FormLong = codes "form long"
+spot_reason_text spot.CostNegative = codes "cost negative"
+spot_reason_text spot.CostNotWhole = codes "cost not whole"
+spot_reason_text spot.CostWide = codes "cost wide"
+
 abbrev pub refusal_text : Refusal → List ℕ
 refusal_text (TooLong file) = codes "Refused: " ++ name_of file ++ codes " too long\n"
 refusal_text (Syntax file place) = text_at file place (codes "syntax")
@@ -62,6 +84,8 @@ refusal_text (Typing text place rule) = text_at (file_of text) place (rule_text 
 refusal_text (StampOrder place) = text_at Plan place (codes "stamp order")
 refusal_text (UnknownStep place) = text_at Plan place (codes "unknown step")
 refusal_text (StepWide step) = codes "Refused: number wide: plan step " ++ decimal step ++ codes "\n"
+refusal_text (Task reason) = codes "Refused: " ++ task_reason_text reason ++ codes "\n"
+refusal_text (AtSpot reason text) = codes "Refused: " ++ spot_reason_text reason ++ codes ": " ++ text ++ codes "\n"
 refusal_text PairNotBuilt = codes "Refused: not built yet\n"
 refusal_text CertificateNotBuilt = codes "Refused: not built yet\n"
 
@@ -93,12 +117,13 @@ run_text (Stuck step) = codes "Not a plan: step " ++ decimal step ++ codes " is 
 run_text (NoCost step) = codes "Not a plan: step " ++ decimal step ++ codes " has no cost\n"
 
 abbrev pub text_of : Answer → List ℕ
-text_of Usage = codes "usage: solve DOMAIN PROBLEM PLAN CERT [NODES]\n       check DOMAIN PROBLEM CERT\n       run DOMAIN PROBLEM PLAN\n"
+text_of Usage = codes "usage: solve DOMAIN PROBLEM PLAN CERT [NODES]\n       check DOMAIN PROBLEM CERT\n       run DOMAIN PROBLEM PLAN\n       list DOMAIN PROBLEM\n"
 text_of (CannotRead file) = codes "Refused: cannot read " ++ name_of file ++ codes "\n"
 text_of (Refused refusal) = refusal_text refusal
 text_of (Solved answer) = solve_text answer
 text_of (Checked answer) = check_text answer
 text_of (Ran end) = run_text end
+text_of (Listed text) = text
 text_of (CannotWrite file) = codes "Refused: cannot write " ++ name_of file ++ codes "\n"
 text_of OutOfMemory = codes "Out of memory\n"
 
@@ -124,3 +149,4 @@ status_of OutOfMemory = 7
 status_of (Solved answer) = solve_status answer
 status_of (Checked answer) = check_status answer
 status_of (Ran end) = run_status end
+status_of (Listed text) = 0

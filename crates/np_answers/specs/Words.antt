@@ -32,6 +32,7 @@ pub data Command : Type 0 where
   solving : Solve → Command
   checking : Check → Command
   running : Run → Command
+  listing : Inputs → Command
 
 -- the number that decimal digits stand for after a number that is already read; none where a byte is no digit
 abbrev pub number_from : ℕ → List ℕ → Option ℕ
@@ -82,6 +83,13 @@ check_of words = option_map (λ names. record { inputs = names.0; certificate = 
 abbrev pub run_of : List (List ℕ) → Option Run
 run_of words = option_map (λ names. record { inputs = names.0; plan = names.1 }) (names_after (codes "run") words)
 
+-- `list DOMAIN PROBLEM`
+abbrev pub list_of : List (List ℕ) → Option Inputs
+list_of (command ∷ domain ∷ problem ∷ []) = if bytes_eq command (codes "list") then Some (record { domain = domain; problem = problem }) else None
+list_of words = None
+
 -- the command that the words fit; they never fit two
 abbrev pub command_of : List (List ℕ) → Option Command
-command_of words = option_or (option_map solving (solve_of words)) (option_or (option_map checking (check_of words)) (option_map running (run_of words)))
+command_of words =
+    option_or (option_map solving (solve_of words)) (option_or (option_map checking (check_of words))
+    (option_or (option_map running (run_of words)) (option_map listing (list_of words))))

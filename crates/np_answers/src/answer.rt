@@ -7,9 +7,10 @@ mod refusal;
 mod run;
 mod solve;
 
+use crate::text::Text;
 pub use check::{CheckAnswer, Fault};
 use np_run::RunEnd;
-pub use refusal::Refusal;
+pub use refusal::{Refusal, SpotReason, TaskReason};
 use run::{run_status, run_text};
 pub use solve::SolveAnswer;
 use std::alloc::{AllocError, Global};
@@ -24,7 +25,7 @@ pub enum File {
 }
 
 /// An answer of the planner.
-#[derive(Clone, Copy)]
+#[derive(Drop)]
 pub enum Answer {
     /// The words fit no command.
     Usage,
@@ -38,6 +39,8 @@ pub enum Answer {
     Checked(CheckAnswer),
     /// An answer of `run`.
     Ran(RunEnd),
+    /// The answer of `list`: the text of the flat task.
+    Listed(Text),
     /// A file could not be written.
     CannotWrite(File),
     /// Out of memory.
@@ -60,19 +63,20 @@ impl File {
 
 impl Answer {
     /// The text of the answer, with its line feed. Out of memory is the only error.
-    pub fn text(&self, alloc: Global) -> Result<String, AllocError>
-        ensures { IfOk result (λ text. string_bytes text ≡ text_of self.now) }
+    pub fn text(self, alloc: Global) -> Result<String, AllocError>
+        ensures { IfOk result (λ text. string_bytes text ≡ text_of self) }
     {
         match self {
             Answer::Usage => String::from_str(
                 alloc,
-                "usage: solve DOMAIN PROBLEM PLAN CERT [NODES]\n       check DOMAIN PROBLEM CERT\n       run DOMAIN PROBLEM PLAN\n",
+                "usage: solve DOMAIN PROBLEM PLAN CERT [NODES]\n       check DOMAIN PROBLEM CERT\n       run DOMAIN PROBLEM PLAN\n       list DOMAIN PROBLEM\n",
             ),
             Answer::CannotRead(file) => format!(in alloc; "Refused: cannot read {}\n", file.name()),
             Answer::Refused(refusal) => refusal.text(alloc),
             Answer::Solved(answer) => answer.text(alloc),
             Answer::Checked(answer) => answer.text(alloc),
-            Answer::Ran(end) => run_text(alloc, *end),
+            Answer::Ran(end) => run_text(alloc, end),
+            Answer::Listed(text) => Ok(text.into_string()),
             Answer::CannotWrite(file) => {
                 format!(in alloc; "Refused: cannot write {}\n", file.name())
             }
@@ -93,6 +97,7 @@ impl Answer {
             Answer::Solved(answer) => answer.status(),
             Answer::Checked(answer) => answer.status(),
             Answer::Ran(end) => run_status(*end),
+            Answer::Listed(_) => 0,
         }
     }
 }

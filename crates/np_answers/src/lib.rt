@@ -4,8 +4,10 @@
 
 mod answer;
 mod output;
+mod text;
 mod words;
 
-pub use answer::{Answer, CheckAnswer, Fault, File, Refusal, SolveAnswer};
+pub use answer::{Answer, CheckAnswer, Fault, File, Refusal, SolveAnswer, SpotReason, TaskReason};
 pub use output::say;
+pub use text::Text;
 pub use words::{Check, Command, Inputs, MOST_NODES, Run, Solve, command_words};

@@ -8,12 +8,13 @@ use np_io::{Give, Sink};
 use std::alloc::Global;
 
 /// Pushes an answer, and gives the status to end with.
-pub fn say<O: Sink>(alloc: Global, answer: &Answer, out: &mut O) -> u8
-    ensures given { IsAnsweredBy answer.now (O.seen out.old) (O.seen out.new) result }
+pub fn say<O: Sink>(alloc: Global, answer: Answer, out: &mut O) -> u8
+    ensures given { IsAnsweredBy answer (O.seen out.old) (O.seen out.new) result }
     ensures later { (O.seen out.old).faults ≤ (O.seen out.new).faults }
 {
+    let status = answer.status();
     match answer.text(alloc) {
-        Ok(text) => push(text.as_bytes(), answer.status(), out),
+        Ok(text) => push(text.as_bytes(), status, out),
         Err(_) => push(b"Out of memory\n", 7, out),
     }
 }

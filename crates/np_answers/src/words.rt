@@ -2,7 +2,7 @@
 ghost use Rattle.std.specs.Prelude.{◌≡◌, ◌≤◌, map, string_bytes, IfSome, Some, false};
 ghost use Rattle.std.specs.Str.{bytes_eq};
 ghost use Rattle.std.specs.Option.{option_map};
-ghost use Rattle.np_answers.specs.Words.{solve_of, check_of, run_of, command_of, names_after, budget_of, nodes_of, is_apart};
+ghost use Rattle.np_answers.specs.Words.{listing, solve_of, check_of, run_of, list_of, command_of, names_after, budget_of, nodes_of, is_apart};
 ghost use Rattle.np_answers.specs.declared.words.TheConstants.{MOST_NODES};
 ghost use Rattle.np_answers.specs.CommandSteps.{told, told_solve, told_check, told_run, told_inputs, told_names};
 ghost use Rattle.np_answers.specs.declared.words.Solve.{Solve as SolveWords};
@@ -50,6 +50,8 @@ pub enum Command<'a> {
     Solve(Solve<'a>),
     Check(Check<'a>),
     Run(Run<'a>),
+    /// The pair alone.
+    List(Inputs<'a>),
 }
 
 /// The command that the words fit; none where they fit no command.
@@ -65,9 +67,20 @@ pub fn command_words(words: &[String]) -> Option<Command<'_>>
             Some(command) => Some(Command::Check(command)),
             None => match run_words(words) {
                 Some(command) => Some(Command::Run(command)),
-                None => None,
+                None => list_command(words),
             },
         },
+    }
+}
+
+/// The command `list`, where the words are its own.
+fn list_command(words: &[String]) -> Option<Command<'_>>
+    ensures told { option_map told result ≡ option_map listing (list_of (map string_bytes words.now)) }
+    ensures other { (command : SolveWords) → result ≡ Some (fits.Solve command) → ⊥ }
+{
+    match list_words(words) {
+        Some(inputs) => Some(Command::List(inputs)),
+        None => None,
     }
 }
 
@@ -120,6 +133,22 @@ fn run_words(words: &[String]) -> Option<Run<'_>>
 {
     let (inputs, plan) = names_after("run", words)?;
     Some(Run { inputs, plan })
+}
+
+/// What the words tell `list`; none where they aren't `list DOMAIN PROBLEM`.
+fn list_words(words: &[String]) -> Option<Inputs<'_>>
+    ensures { option_map told_inputs result ≡ list_of (map string_bytes words.now) }
+{
+    let [command, domain, problem] = words else {
+        return None;
+    };
+    if command.as_str() != "list" {
+        return None;
+    }
+    Some(Inputs {
+        domain: domain.as_str(),
+        problem: problem.as_str(),
+    })
 }
 
 /// The pair and the third file that the words name after this word; none where they are other words, or not so many.

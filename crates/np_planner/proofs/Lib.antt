@@ -2,6 +2,7 @@ pub mod CheckEnds
 pub mod Checkable
 pub mod Coming
 pub mod Limits
+pub mod ListEnds
 pub mod Promises
 pub mod RunEnds
 pub mod SpelledPairs

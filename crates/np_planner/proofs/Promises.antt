@@ -6,8 +6,8 @@ use Rattle.np_answers.specs.declared.answer.solve.SolveAnswer.{SolveAnswer}
 use Rattle.np_answers.specs.declared.answer.solve.SolveAnswer.TheVariants.{Optimal, Unsolvable, Spent}
 use Rattle.np_answers.specs.declared.answer.check.CheckAnswer.TheVariants.{Yes, No}
 use Rattle.np_answers.specs.declared.answer.Answer.{Answer}
-use Rattle.np_answers.specs.declared.answer.Answer.TheVariants.{Usage, CannotRead, Refused, Solved, Checked, Ran, CannotWrite, OutOfMemory}
-use Rattle.np_answers.specs.Words.{Solve, Check, Run, Command, solving, checking, running}
+use Rattle.np_answers.specs.declared.answer.Answer.TheVariants.{Usage, CannotRead, Refused, Solved, Checked, Ran, Listed, CannotWrite, OutOfMemory}
+use Rattle.np_answers.specs.Words.{Inputs, Solve, Check, Run, Command, solving, checking, running, listing}
 use Rattle.np_answers.specs.Texts.{status_of}
 use Rattle.np_planner.specs.SolveAnswers.{IsRightSolve}
 use Rattle.np_planner.specs.RightAnswers.{IsRight, IsRightTo}
@@ -74,6 +74,17 @@ module _ (call : Call) where
     ran answer says (inl (inr (inr without))) = absurd without
     ran answer says (inr right) = absurd right
 
+  module _ (inputs : Inputs) (words_are : call.command ≡ Some (listing inputs)) where
+    listed : (answer : Answer) → Says call answer → IsRightTo (listing inputs) call.before call.after answer → Kept call (listing inputs) answer
+    listed (CannotRead f) says right = (f, told (CannotRead f) says (listing inputs) right)
+    listed (Refused refusal) says right = (refusal, told (Refused refusal) says (listing inputs) right)
+    listed OutOfMemory says right = forgot (listing inputs) words_are says right
+    listed (Listed text) says (inr right) = record { text = text; says = says; right = right.1; untouched = right.0 }
+    listed answer says (inl (inl without)) = absurd without
+    listed answer says (inl (inr (inl without))) = absurd without.1
+    listed answer says (inl (inr (inr without))) = absurd without
+    listed answer says (inr right) = absurd right
+
   -- a right answer was said whole
   whole : (answer : Answer) → Says call answer → (o : Option Command) → ((command : Solve) → o ≡ Some (solving command) → AreApart command) → call.command ≡ o → IsRight o call.before call.after answer
       → Promise o (status_named (status_of answer)) call
@@ -82,18 +93,21 @@ module _ (call : Call) where
   whole answer says (Some (solving command)) names words_are right = solved command (names command refl) words_are answer says right
   whole answer says (Some (checking command)) names words_are right = checked command words_are answer says right
   whole answer says (Some (running command)) names words_are right = ran command words_are answer says right
+  whole answer says (Some (listing inputs)) names words_are right = listed inputs words_are answer says right
 
   cut : (o : Option Command) → IsPushCut call → Promise o kind.unwritten call
   cut None is = inr is
   cut (Some (solving command)) is = inr is
   cut (Some (checking command)) is = inr is
   cut (Some (running command)) is = inr is
+  cut (Some (listing inputs)) is = inr is
 
   unsaid : (o : Option Command) → IsOutOfMemory call → Promise o kind.no_memory call
   unsaid None is = is
   unsaid (Some (solving command)) is = is
   unsaid (Some (checking command)) is = is
   unsaid (Some (running command)) is = is
+  unsaid (Some (listing inputs)) is = is
 
   module _ (names : (command : Solve) → call.command ≡ Some (solving command) → AreApart command) (status : ℕ) (is : IsAnswered call status) where
     at : (s : ℕ) → status ≡ s → Promise call.command (status_named s) call → KeepsPromise call status
@@ -118,12 +132,14 @@ module _ (call : Call) where
     no_plan (Some (solving command)) words_are p = record { command = command; words_are = words_are; holds = p }
     no_plan (Some (checking command)) words_are p = absurd p
     no_plan (Some (running command)) words_are p = absurd p
+    no_plan (Some (listing inputs)) words_are p = absurd p
 
     budget_spent : (o : Option Command) → call.command ≡ o → Promise o kind.spent call → WhenSolving call (IsBudgetSpent call)
     budget_spent None words_are p = absurd p
     budget_spent (Some (solving command)) words_are p = record { command = command; words_are = words_are; holds = p }
     budget_spent (Some (checking command)) words_are p = absurd p
     budget_spent (Some (running command)) words_are p = absurd p
+    budget_spent (Some (listing inputs)) words_are p = absurd p
 
     word : KeepsItsWord call status
     word = record {
@@ -134,6 +150,7 @@ module _ (call : Call) where
       yes_comes = comes call status is;
       runs = λ command words_are e. subst (λ (o : Option Command). Promise o kind.done call) words_are (at_status 0 e);
       runs_not = λ command words_are e. subst (λ (o : Option Command). Promise o kind.denied call) words_are (at_status 6 e);
+      lists = λ inputs words_are e. subst (λ (o : Option Command). Promise o kind.done call) words_are (at_status 0 e);
     }
 
 pub promise_of : (words : List (List ℕ)) (before after : SeenShelf) (out_before out_after : SeenSink) (status : ℕ) → IsAnswered (call_of words before after out_before out_after) status → KeepsPromise (call_of words before after out_before out_after) status

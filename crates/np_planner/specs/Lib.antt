@@ -1,5 +1,7 @@
 pub mod CheckAnswers
 pub mod CheckSteps
+pub mod ListAnswers
+pub mod ListSteps
 pub mod Promises
 pub mod ReadSteps
 pub mod RightAnswers

@@ -15,11 +15,12 @@ use Rattle.np_answers.specs.declared.answer.check.CheckAnswer.{CheckAnswer}
 use Rattle.np_answers.specs.declared.answer.check.CheckAnswer.TheVariants.{Yes, No}
 use Rattle.np_answers.specs.declared.answer.check.Fault.{Fault}
 use Rattle.np_answers.specs.declared.answer.Answer.{Answer}
-use Rattle.np_answers.specs.declared.answer.Answer.TheVariants.{Usage, CannotRead, Refused, Solved, Checked, Ran, CannotWrite, OutOfMemory}
-use Rattle.np_answers.specs.Words.{Solve, Check, Run, Command, solving, checking, running, command_of}
+use Rattle.np_answers.specs.declared.answer.Answer.TheVariants.{Usage, CannotRead, Refused, Solved, Checked, Ran, Listed, CannotWrite, OutOfMemory}
+use Rattle.np_answers.specs.Words.{Inputs, Solve, Check, Run, Command, solving, checking, running, listing, command_of}
 use Rattle.np_planner.specs.SolveAnswers.{IsRightSolve, claim_of}
 use Rattle.np_planner.specs.CheckAnswers.{IsRightCheck, HoldsValid}
 use Rattle.np_planner.specs.RunAnswers.{IsRightRun}
+use Rattle.np_planner.specs.ListAnswers.{IsRightList}
 use Rattle.np_planner.specs.RightAnswers.{IsRight, IsRightTo}
 use Rattle.np_answers.specs.Texts.{text_of}
 use Rattle.np_answers.specs.Output.{IsWhole, IsCutOff, IsAnsweredBy}
@@ -144,6 +145,13 @@ pub record IsNoPlanTold (call : Call) (command : Run) : Type 0 where
   pub other : IsOtherEnd end
   pub told : IsRunTold call command end
 
+-- the text of the flat task of the pair was pushed, and nothing was done
+pub record IsListTold (call : Call) (inputs : Inputs) : Type 0 where
+  pub text : List ℕ
+  pub says : Says call (Listed text)
+  pub right : IsRightList inputs text call.before
+  pub untouched : call.after ≡ call.before
+
 -- the words fit no command, the usage text was pushed, and nothing was done
 pub record IsUsage (call : Call) : Type 0 where
   pub says : Says call Usage
@@ -186,6 +194,7 @@ Promise (Some (checking check)) done call = IsYes call check
 Promise (Some (checking check)) denied call = IsNo call check
 Promise (Some (running run)) done call = IsPlanTold call run
 Promise (Some (running run)) denied call = IsNoPlanTold call run
+Promise (Some (listing inputs)) done call = IsListTold call inputs
 Promise (Some command) refused call = IsRefused call command
 Promise (Some command) unread call = HadReadFault call command
 Promise command unwritten call = HadWriteFault call command ⊎ IsPushCut call
@@ -211,7 +220,8 @@ pub record WhenSolving (call : Call) (Holds : Solve → Type 0) : Type 0 where
 -- THE HEADLINE. What `solve` prints is true: the plan runs, meets the goal and costs the printed number, and no plan of any length costs
 -- less; or there is none; or no plan costs less than the bound. What it puts is a certificate to which `check` says yes. And the yes of
 -- `check`, on whatever bytes, is true of its claim, and comes for every valid certificate, where nothing fails and memory is there. What
--- `run` says of a plan's file is true of the task of the two files.
+-- `run` says of a plan's file is true of the task of the two files. What `list` prints is the text of the flat task of that task, by the
+-- definitions of binding and scaling.
 pub record KeepsItsWord (call : Call) (status : ℕ) : Type 0 where
   pub optimal : (command : Solve) → call.command ≡ Some (solving command) → status ≡ 0 → IsOptimal call command
   pub unsolvable : status ≡ 10 → WhenSolving call (HasNoPlan call)
@@ -220,3 +230,4 @@ pub record KeepsItsWord (call : Call) (status : ℕ) : Type 0 where
   pub yes_comes : (command : Check) (claim : Limit) → call.command ≡ Some (checking command) → HoldsValid command claim call.before → HadNoFault call command → ((status ≡ 0) × Says call (Checked (Yes claim))) ⊎ (status ≡ 7)
   pub runs : (command : Run) → call.command ≡ Some (running command) → status ≡ 0 → IsPlanTold call command
   pub runs_not : (command : Run) → call.command ≡ Some (running command) → status ≡ 6 → IsNoPlanTold call command
+  pub lists : (inputs : Inputs) → call.command ≡ Some (listing inputs) → status ≡ 0 → IsListTold call inputs

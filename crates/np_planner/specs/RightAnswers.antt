@@ -18,12 +18,13 @@ use Rattle.np_answers.specs.declared.answer.refusal.Refusal.TheVariants.{TooLong
 use Rattle.np_answers.specs.declared.answer.Answer.{Answer}
 use Rattle.np_answers.specs.declared.answer.Answer.TheVariants.{Usage, CannotRead, Refused, Solved, Checked, CannotWrite, OutOfMemory}
 use Rattle.np_planner.specs.declared.inputs.TheConstants.{MOST_BYTES}
-use Rattle.np_answers.specs.Words.{Inputs, Solve, Check, Command, solving, checking, running}
+use Rattle.np_answers.specs.Words.{Inputs, Solve, Check, Command, solving, checking, running, listing}
 use Rattle.np_planner.specs.Shelves.{WasRead, AreRead, HoldsPair, ReadFailed}
 use Rattle.np_planner.specs.SolveAnswers.{IsRightSolve, OnlyCertified, WasUnwritten}
 use Rattle.np_planner.specs.CheckAnswers.{IsRightCheck}
 use Rattle.np_planner.specs.TaskFiles.{IsWithoutTask}
 use Rattle.np_planner.specs.RunAnswers.{IsRunAnswer}
+use Rattle.np_planner.specs.ListAnswers.{IsListAnswer}
 
 -- the read of a file of the pair failed, and nothing else did; the domain is read first
 abbrev pub WasUnread : Inputs → File → SeenShelf → SeenShelf → Type 0
@@ -108,6 +109,7 @@ abbrev pub IsRightTo : Command → SeenShelf → SeenShelf → Answer → Type 0
 IsRightTo (solving solve) old new answer = IsWithoutPair solve.inputs old new answer ⊎ IsSolveAnswer solve old new answer
 IsRightTo (checking check) old new answer = IsWithoutPair check.inputs old new answer ⊎ IsCheckAnswer check old new answer
 IsRightTo (running run) old new answer = IsWithoutTask run.inputs old new answer ⊎ IsRunAnswer run old new answer
+IsRightTo (listing inputs) old new answer = IsWithoutTask inputs old new answer ⊎ IsListAnswer inputs old new answer
 
 -- whether an answer to words is right: usage exactly where they fit no command, and then nothing was done
 abbrev pub IsRight : Option Command → SeenShelf → SeenShelf → Answer → Type 0

@@ -5,6 +5,7 @@ ghost use Rattle.np_planner.specs.RightAnswers.{IsRight};
 ghost use Rattle.np_planner.specs.Promises.{call_of, IsAnswered, KeepsPromise, KeepsItsWord};
 
 use crate::check::check;
+use crate::list::list;
 use crate::run::run;
 use crate::solve::solve;
 use np_answers::{Answer, Command, command_words, say};
@@ -19,6 +20,7 @@ fn answer<S: Shelf>(alloc: Global, words: &[String], shelf: &mut S) -> Answer
         Some(Command::Solve(command)) => solve(alloc, &command, shelf),
         Some(Command::Check(command)) => check(alloc, &command, shelf),
         Some(Command::Run(command)) => run(alloc, &command, shelf),
+        Some(Command::List(inputs)) => list(alloc, &inputs, shelf),
         None => Answer::Usage,
     }
 }
@@ -37,5 +39,5 @@ pub fn planner<S: Shelf, O: Sink>(alloc: Global, words: &[String], shelf: &mut S
     ensures later { (O.seen out.old).faults ≤ (O.seen out.new).faults }
 {
     let answer = answer(alloc, words, shelf);
-    say(alloc, &answer, out)
+    say(alloc, answer, out)
 }

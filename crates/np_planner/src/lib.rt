@@ -4,6 +4,7 @@
 mod check;
 mod entry;
 mod inputs;
+mod list;
 mod run;
 mod solve;
 mod task_files;

@@ -7,7 +7,7 @@ use np_io::{MemoryShelf, MemorySink};
 use std::process::Abort;
 
 const USAGE: &str =
-    "usage: solve DOMAIN PROBLEM PLAN CERT [NODES]\n       check DOMAIN PROBLEM CERT\n       run DOMAIN PROBLEM PLAN\n";
+    "usage: solve DOMAIN PROBLEM PLAN CERT [NODES]\n       check DOMAIN PROBLEM CERT\n       run DOMAIN PROBLEM PLAN\n       list DOMAIN PROBLEM\n";
 
 /// Words that fit no command.
 const FAULTY: &[&[&str]] = &[

@@ -10,6 +10,10 @@ mod faults;
 #[cfg(test)]
 mod forms;
 #[cfg(test)]
+mod list;
+#[cfg(test)]
+mod list_edges;
+#[cfg(test)]
 mod run;
 #[cfg(test)]
 mod solve;

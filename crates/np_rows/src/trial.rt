@@ -155,3 +155,45 @@ pub fn expect_run(
     let words = ["run", "d", "p", "plan"];
     expect(rt, &words, &mut shelf, &mut sink, answer, status);
 }
+
+/// Calls `list` on these two texts, and compares its status and what it pushed.
+pub fn expect_list(
+    rt: &(impl Abort + AllocGlobal),
+    domain: &str,
+    problem: &str,
+    answer: &str,
+    status: u8,
+) {
+    let mut shelf = shelf(rt, domain.as_bytes(), problem.as_bytes());
+    let mut sink = MemorySink::new(rt.alloc());
+    expect(
+        rt,
+        &["list", "d", "p"],
+        &mut shelf,
+        &mut sink,
+        answer,
+        status,
+    );
+}
+
+/// Calls `list` on these two texts, and compares its status and how many lines it pushed that begin so.
+pub fn expect_lines(
+    rt: &(impl Abort + AllocGlobal),
+    domain: &str,
+    problem: &str,
+    begin: &str,
+    lines: usize,
+    status: u8,
+) {
+    let mut shelf = shelf(rt, domain.as_bytes(), problem.as_bytes());
+    let mut sink = MemorySink::new(rt.alloc());
+    let words = words(rt, &["list", "d", "p"]);
+    let given = planner(rt.alloc(), words.as_slice(), &mut shelf, &mut sink);
+    let mut count: usize = 0;
+    for line in sink.bytes().split(|byte| *byte == b'\n') {
+        if line.starts_with(begin.as_bytes()) {
+            count = count.saturating_add(1);
+        }
+    }
+    assert_eq!(rt; (given, count), (status, lines), "{begin}");
+}

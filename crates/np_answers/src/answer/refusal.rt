@@ -1,15 +1,16 @@
 //! Why the planner doesn't work on what the files hold.
 ghost use Rattle.std.specs.Prelude.{◌≡◌, IfOk, string_bytes};
-ghost use Rattle.np_answers.specs.Texts.{name_of, refusal_text, text_at, file_of, rule_text};
+ghost use Rattle.np_answers.specs.Texts.{name_of, refusal_text, text_at, file_of, rule_text, task_reason_text, spot_reason_text};
 
 use super::File;
+use crate::text::Text;
 use itoa::Buffer;
 use np_lex::Place;
 use np_names::{Source, TypeWhy};
 use std::alloc::{AllocError, Global};
 
 /// Why the planner doesn't work on what the files hold.
-#[derive(Clone, Copy)]
+#[derive(Drop)]
 pub enum Refusal {
     /// A file has more bytes than the limit; a plan has more steps.
     TooLong(File),
@@ -25,19 +26,61 @@ pub enum Refusal {
     UnknownStep(Place),
     /// A number gets too wide for 128 bits while the step of this number is computed.
     StepWide(u64),
+    /// The task of the files has no flat task, for this reason.
+    Task(TaskReason),
+    /// The task of the files has no flat task, for this reason at this spot.
+    AtSpot(SpotReason, Text),
     /// The pair of files isn't of the form that is built so far.
     PairNotBuilt,
     /// The certificate isn't of the form that is built so far.
     CertificateNotBuilt,
 }
 
+/// Why a task has no flat task.
+#[derive(Clone, Copy)]
+pub enum TaskReason {
+    /// Its actions have more than 2^22 bindings together.
+    TooManyBindings,
+    /// It has more than 2^16 steps.
+    TooManySteps,
+    /// Conditions read more than 2^14 atoms.
+    TooManyFacts,
+    /// Comparisons read more than 2^10 terms.
+    TooManyValues,
+    /// There are more than 2^16 different subgoals.
+    TooManySubgoals,
+    /// The unit isn't below 2^62.
+    UnitWide,
+    /// The goal reads a term without a value, or divides by 0.
+    GoalUndefined,
+    /// The metric divides by 0.
+    MetricUndefined,
+}
+
+/// Why a task has no flat task, at a spot of it.
+#[derive(Clone, Copy)]
+pub enum SpotReason {
+    /// Two expressions that aren't constant are multiplied, or one is divided by such a one.
+    NotLinear,
+    /// A number is too wide.
+    NumberWide,
+    /// A comparison has more than 64 terms.
+    FormLong,
+    /// The step's cost is below 0.
+    CostNegative,
+    /// The step's cost isn't a whole number.
+    CostNotWhole,
+    /// The step's cost isn't below 2^32.
+    CostWide,
+}
+
 impl Refusal {
     /// The text of the refusal, with its line feed. Out of memory is the only error.
-    pub fn text(&self, alloc: Global) -> Result<String, AllocError>
-        ensures { IfOk result (λ text. string_bytes text ≡ refusal_text self.now) }
+    pub fn text(self, alloc: Global) -> Result<String, AllocError>
+        ensures { IfOk result (λ text. string_bytes text ≡ refusal_text self) }
     {
         let mut buffer = Buffer::new();
-        match *self {
+        match self {
             Refusal::TooLong(file) => format!(in alloc; "Refused: {} too long\n", file.name()),
             Refusal::Syntax(file, place) => text_at(alloc, file, place, "syntax"),
             Refusal::NumberWide(file, place) => text_at(alloc, file, place, "number wide"),
@@ -48,6 +91,13 @@ impl Refusal {
             Refusal::UnknownStep(place) => text_at(alloc, File::Plan, place, "unknown step"),
             Refusal::StepWide(step) => {
                 format!(in alloc; "Refused: number wide: plan step {}\n", buffer.format(step))
+            }
+            Refusal::Task(reason) => {
+                format!(in alloc; "Refused: {}\n", task_reason_text(reason))
+            }
+            Refusal::AtSpot(reason, spot) => {
+                let reason = spot_reason_text(reason);
+                format!(in alloc; "Refused: {}: {}\n", reason, spot.as_str())
             }
             Refusal::PairNotBuilt => String::from_str(alloc, "Refused: not built yet\n"),
             Refusal::CertificateNotBuilt => String::from_str(alloc, "Refused: not built yet\n"),
@@ -101,5 +151,35 @@ fn rule_text(why: TypeWhy) -> &'static str
         TypeWhy::WrongType => "wrong type",
         TypeWhy::ValueTwice => "value twice",
         TypeWhy::AmountNotStatic => "amount not static",
+    }
+}
+
+/// The words for why a task has no flat task.
+fn task_reason_text(reason: TaskReason) -> &'static str
+    ensures { result.now ≡ task_reason_text reason }
+{
+    match reason {
+        TaskReason::TooManyBindings => "too many bindings",
+        TaskReason::TooManySteps => "too many steps",
+        TaskReason::TooManyFacts => "too many facts",
+        TaskReason::TooManyValues => "too many values",
+        TaskReason::TooManySubgoals => "too many subgoals",
+        TaskReason::UnitWide => "unit wide",
+        TaskReason::GoalUndefined => "goal undefined",
+        TaskReason::MetricUndefined => "metric undefined",
+    }
+}
+
+/// The words for why a task has no flat task, before those for the spot.
+fn spot_reason_text(reason: SpotReason) -> &'static str
+    ensures { result.now ≡ spot_reason_text reason }
+{
+    match reason {
+        SpotReason::NotLinear => "not linear",
+        SpotReason::NumberWide => "number wide",
+        SpotReason::FormLong => "form long",
+        SpotReason::CostNegative => "cost negative",
+        SpotReason::CostNotWhole => "cost not whole",
+        SpotReason::CostWide => "cost wide",
     }
 }

@@ -1,0 +1,5 @@
+(define (problem most-of-a-litre) (:domain glasses)
+  (:objects small large - glass)
+  (:init (clean small) (= (level small) 0) (= (level large) 0) (= (size small) 1.25))
+  (:goal (> (level small) 0.75))
+  (:metric minimize (total-cost)))
