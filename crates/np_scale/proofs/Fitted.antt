@@ -11,6 +11,7 @@ use Rattle.std.proofs.lemmas.List.Elements.{All-get_or, All-head, All-from_recur
 use Rattle.std.proofs.lemmas.Nat.{le-div}
 use Rattle.std.proofs.lemmas.Nat.Gcd.{le_of_dvd}
 use native.Mathlib.Nat.{mul-le-mul_left, mul-pos}
+use Rattle.np_frac.specs.Gcd.{gcd-one}
 use Rattle.np_frac.specs.Fractions.{Fraction, over, whole, times}
 use Rattle.np_frac.specs.Ring.{var, nat, add, mul, neg, ring}
 use Rattle.np_model.specs.Values.{negated}
@@ -108,6 +109,16 @@ pub multiple_past : (first : Fraction) (cs : List (ℕ × Fraction)) → IsFirst
 multiple_past first [] is some past = absurd is
 multiple_past first (c ∷ cs) is some past =
     first_past c cs (All-head (λ c. is_zero c.1 ≡ false) c cs some) (subst (λ (a : Fraction). COEFFICIENT_SIZE ≤ ratio_lcm a (c ∷ cs)) (sym is) past)
+
+-- the ratio of the first coefficient to itself changes nothing
+pub after_first : (first : Fraction) (cs : List (ℕ × Fraction)) → IsFirst first cs → AreNonzero cs
+    → fold lcm 1 (map (λ c. (times c.1 (reciprocal first)).den) (drop 1 cs)) ≡ ratio_lcm first cs
+after_first first [] is some = absurd is
+after_first first (c ∷ cs) is some =
+    let own : (times c.1 (reciprocal first)).den ≡ 1 =
+    ap (λ a. (times c.1 (reciprocal a)).den) (sym is) ∙ ap (λ (x : Fraction). x.den) (times_reciprocal c.1 (All-head (λ c. is_zero c.1 ≡ false) c cs some)) ∙ whole_den (pos 1) in
+    let same : lcm 1 1 ≡ 1 = ap (λ g. 1 / g * 1) (gcd-one 1) in
+    sym (ap (λ n. fold lcm (lcm 1 n) (map (λ c. (times c.1 (reciprocal first)).den) cs)) own ∙ ap (λ n. fold lcm n (map (λ c. (times c.1 (reciprocal first)).den) cs)) same)
 
 -- a ratio that isn't answered
 unfit : (z : ℤ) (n : ℕ) → (fits z && nat_lt n (2 ^ 127)) ≡ false → (2 ^ 127 ≤ unsigned_abs z) ⊎ (2 ^ 127 ≤ n)

@@ -123,7 +123,8 @@ fn ratio_lcm(first: &Frac, coefficients: &[(u32, Frac)]) -> Option<u128>
     ensures none { result ≡ None → are_small (whole_by (factor_for coefficients.now) coefficients.now) ≡ false }
 {
     let mut lcm = 1;
-    for (_, coefficient) in coefficients {
+    for place in 1..coefficients.len() {
+        let (_, coefficient) = &coefficients[place];
         let ratio = coefficient.div(first)?;
         lcm = lcm_below(COEFFICIENT_SIZE, lcm, ratio.den())?;
     }

@@ -47,7 +47,7 @@ pub fn subgoal_numbers(
     ensures known { AnswersInto result subgoals.new (with_conditions spot.now tables.now.facts tables.now.values tables.now.unit subgoals.old conditions.now) }
     ensures numbers { IfOk result (ArePut subgoals.new (all_subgoals tables.now.facts tables.now.values tables.now.unit conditions.now) []) }
 {
-    let mut numbers = Vec::new(alloc);
+    let mut numbers = Vec::with_capacity(alloc, conditions.len())?;
     for condition in conditions {
         put_condition(alloc, spot, tables, condition, subgoals, &mut numbers)?;
     }

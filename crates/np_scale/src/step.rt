@@ -86,7 +86,7 @@ pub fn fact_numbers(
 ) -> Result<Items<u32>, AllocError>
     ensures { IfOk result (λ numbers. numbers ≡ facts_in facts.now atoms.now) }
 {
-    let mut numbers = Vec::new(alloc);
+    let mut numbers = Vec::with_capacity(alloc, atoms.len())?;
     for atom in atoms {
         put_fact(facts, atom, &mut numbers)?;
     }
@@ -103,7 +103,7 @@ fn deleted_numbers(
     ensures { IfOk result (λ numbers. numbers ≡ facts_in facts.now (filter (λ a. not (is_among adds.now a)) deletes.now)) }
 {
     let added = AtomSet::new(alloc, adds)?;
-    let mut numbers = Vec::new(alloc);
+    let mut numbers = Vec::with_capacity(alloc, deletes.len())?;
     for atom in deletes {
         if !added.has(atom) {
             put_fact(facts, atom, &mut numbers)?;
@@ -135,7 +135,7 @@ fn scaled_changes(
     requires changes { AreMultiples tables.now.values tables.now.unit step.now.changes }
     ensures { Answers result (checked_amounts tables.now.values tables.now.unit step.now) }
 {
-    let mut changes = Vec::new(alloc);
+    let mut changes = Vec::with_capacity(alloc, step.changes.len())?;
     for place in (0..step.changes.len()).rev() {
         let (term, change) = &step.changes.as_slice()[place];
         if !put_change(tables, term, change, &mut changes)? {

@@ -27,7 +27,7 @@ loop-condition-preserved c =
 
 pub returns-in_err-put_condition-clause-known : goal.returns-in_err-put_condition-clause-known
 returns-in_err-put_condition-clause-known c =
-    let p = err_from_is_err_and c.from_residual.result c.from_residual.ensures.1 in
+    let p = err_from_is_err_and c.from_residual-in_err-put_condition.result c.from_residual-in_err-put_condition.ensures.1 in
     let f : BoundCond → List (Result Subgoal ScaleFault) = checked_subgoals c.args.spot.now c.args.tables.now.facts c.args.tables.now.values c.args.tables.now.unit in
     rw (p.1, p.2)
     (known_refused c.in_err-put_condition.field-0.0 f c.loop-condition.subgoals _ c.args.conditions.now c.loop-condition.condition-index c.condition-item.result
