@@ -128,8 +128,9 @@ module _ (domain : Domain_) (problem : Problem) (all : Declarations) (h : HasNam
   objects_faults = ap (λ ns. faults_of InProblem NameTwice (repeats ns (words_of (all_objects problem)))) (sym h.objects)
 
   pub declared_both : (new : Declarations) → new.objects ≡ all.objects ++ texts (words_of (all_objects problem))
-      → new.predicates ≡ all.predicates → new.functions ≡ all.functions → new.actions ≡ all.actions → HasDeclared domain problem new
-  declared_both new o p f a = record {
+      → new.predicates ≡ all.predicates → new.functions ≡ all.functions → new.actions ≡ all.actions → new.types ≡ all.types → HasDeclared domain problem new
+  declared_both new o p f a t = record {
+    types = t ∙ h.types;
     objects = o ∙ (ap (λ ns. ns ++ texts (words_of (all_objects problem))) h.objects ∙ sym (words_more (all_constants domain) (all_objects problem)));
     predicates = p ∙ h.predicates;
     functions = f ∙ h.functions;

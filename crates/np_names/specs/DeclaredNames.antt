@@ -6,7 +6,7 @@ use Rattle.np_syntax.specs.declared.domain.DomainSection.{DomainSection}
 use Rattle.np_problem.specs.declared.problem.Problem.{Problem}
 use Rattle.np_names.specs.declared.declarations.Declarations.{Declarations}
 use Rattle.np_names.specs.Names.{texts, words_of}
-use Rattle.np_names.specs.Declarations.{listed_types, names_of, type_groups, constant_groups, declared_predicates, declared_functions, action_names, all_constants, all_predicates, all_functions, all_objects}
+use Rattle.np_names.specs.Declarations.{listed_types, names_of, type_groups, constant_groups, declared_predicates, declared_functions, action_names, all_types, all_constants, all_predicates, all_functions, all_objects}
 
 -- what the sections of a domain declare
 pub record HasNames (before : List DomainSection) (all : Declarations) : Type 0 where
@@ -18,6 +18,7 @@ pub record HasNames (before : List DomainSection) (all : Declarations) : Type 0 
 
 -- what both declare
 pub record HasDeclared (domain : Domain) (problem : Problem) (all : Declarations) : Type 0 where
+  pub types : all.types ≡ texts (listed_types (all_types domain))
   pub objects : all.objects ≡ texts (words_of (all_constants domain ++ all_objects problem))
   pub predicates : all.predicates ≡ texts (names_of (all_predicates domain))
   pub functions : all.functions ≡ texts (names_of (all_functions domain))

@@ -211,7 +211,7 @@ fn with_objects<'a>(
 ) -> Result<Declarations<'a>, TypeFault>
     ensures { Answers (faults_of Source.Problem TypeWhy.NameTwice (repeats all.entry.objects (words_of (all_objects problem.now))))
         (λ new. (new.objects ≡ all.entry.objects ++ texts (words_of (all_objects problem.now))) × (new.predicates ≡ all.entry.predicates)
-        × (new.functions ≡ all.entry.functions) × (new.actions ≡ all.entry.actions)) result }
+        × (new.functions ≡ all.entry.functions) × (new.actions ≡ all.entry.actions) × (new.types ≡ all.entry.types)) result }
 {
     let mut both = all;
     put_objects(&mut both.objects, problem)?;

@@ -5,7 +5,6 @@ pub mod Limits
 pub mod ListEnds
 pub mod Promises
 pub mod RunEnds
-pub mod SpelledPairs
 pub mod Shelves
 pub mod SolveEnds
 pub mod TaskEnds

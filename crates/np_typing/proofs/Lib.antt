@@ -9,3 +9,4 @@ pub mod UsesStart
 pub mod UsedTask
 pub mod keeping
 pub mod TaskLaws
+pub mod SpelledPairs

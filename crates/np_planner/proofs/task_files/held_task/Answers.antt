@@ -1,4 +1,4 @@
-use Rattle.np_planner.proofs.SpelledPairs.{spelled_pair}
+use Rattle.np_typing.proofs.SpelledPairs.{spelled_pair}
 use Rattle.np_planner.proofs.task_files.held_task.Goals as goal
 
 pub typed-requires : goal.typed-requires
