@@ -7,6 +7,8 @@ mod blind;
 #[cfg(test)]
 mod check;
 #[cfg(test)]
+mod evidence;
+#[cfg(test)]
 mod flat;
 #[cfg(test)]
 mod frac;

@@ -1,0 +1,10 @@
+pub mod WaysBack
+pub mod Cover
+pub mod Bounds
+pub mod EntryLists
+pub mod EntryBounds
+pub mod Runs
+pub mod Nodes
+pub mod Valid
+pub mod Certificates
+pub mod Ends

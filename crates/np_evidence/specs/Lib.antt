@@ -1,0 +1,4 @@
+pub mod Certified
+pub mod Outcomes
+pub mod Entries
+pub mod Searches
