@@ -2,6 +2,7 @@ pub mod ActionLexing
 pub mod Declarations
 pub mod DomainLaws
 pub mod Givens
+pub mod OneRead
 pub mod SectionLexing
 pub mod SectionReads
 pub mod Sections

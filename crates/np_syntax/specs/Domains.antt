@@ -1,11 +1,12 @@
--- What a text of a domain spells, and where the places are that a domain keeps.
-use Rattle.std.specs.Prelude.{ℕ, suc, List, []}
-use Rattle.np_lex.specs.Tokens.{Lexeme}
+-- What a text of a domain spells, where the places are that a domain keeps, and which domain is read.
+use Rattle.std.specs.Prelude.{◌≡◌, ℕ, suc, List, [], Ok}
+use Rattle.np_lex.specs.Tokens.{Lexeme, items_of}
+use Rattle.np_read.specs.ItemReaders.{whole}
 use Rattle.np_read.specs.Marks.{Mark}
 use Rattle.np_conditions.specs.declared.condition.Condition.{Condition}
 use Rattle.np_conditions.specs.declared.effect.Effect.{Effect}
 use Rattle.np_syntax.specs.declared.domain.Domain.{Domain}
-use Rattle.np_syntax.specs.ActionForm.{depth}
+use Rattle.np_syntax.specs.ActionForm.{depth, domain}
 use Rattle.np_conditions.specs.ConditionText.{condition, IsCondition, bare_condition}
 use Rattle.np_conditions.specs.EffectText.{effect, IsEffect, bare_effect}
 use Rattle.np_syntax.specs.SectionText.{domain_with, IsDomainWith, bare_domain_with}
@@ -43,3 +44,7 @@ Spells = IsSpelled IsDomain domain_text
 -- each place that the domain keeps is that of its token in the bytes
 abbrev pub IsPlaced : List ℕ → Domain → Type 0
 IsPlaced = KeepsPlaces domain_marks
+
+-- reading the items of the bytes, one after the other, gives this domain, with the places of its tokens: of one text at most one is read
+abbrev pub IsRead : List ℕ → Domain → Type 0
+IsRead bytes d = whole domain (items_of bytes) ≡ Ok (d, [])

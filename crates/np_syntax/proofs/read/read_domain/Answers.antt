@@ -1,7 +1,10 @@
 use Rattle.std.proofs.Common.{[]}
 use Rattle.np_lex.specs.Lexers.{items_left}
+use Rattle.np_lex.specs.Tokens.{items_of}
+use Rattle.np_syntax.specs.ActionForm.{domain}
 use Rattle.np_syntax.specs.Domains.{bare_domain}
 use Rattle.np_syntax.proofs.DomainLaws.{good_domain, reads_domain, placed_domain}
+use Rattle.np_syntax.proofs.OneRead.{value_read}
 use Rattle.np_words.proofs.TextAnswers.{value_spelled, value_placed, value_only, value_wide, value_refused, stop_fault, stop_wide, stop_refused}
 use Rattle.np_syntax.proofs.read.read_domain.Goals as goal
 
@@ -12,6 +15,10 @@ returns-in-Ok-clause-spelled c =
 pub returns-in-Ok-clause-placed : goal.returns-in-Ok-clause-placed
 returns-in-Ok-clause-placed c =
     value_placed bare_domain good_domain reads_domain placed_domain c.args.bytes.now c.in-Ok.domain [] (rw c.new-lexer.ensures.items at c.in-Ok.ensures.read) c.settled.result c.settled.ensures
+
+pub returns-in-Ok-clause-read : goal.returns-in-Ok-clause-read
+returns-in-Ok-clause-read c =
+    value_read domain (items_of c.args.bytes.now) c.in-Ok.domain (rw c.new-lexer.ensures.items at c.in-Ok.ensures.read) c.settled.result c.settled.ensures
 
 pub returns-in-Ok-clause-only : goal.returns-in-Ok-clause-only
 returns-in-Ok-clause-only c =
