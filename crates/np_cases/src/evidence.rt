@@ -1,6 +1,6 @@
-//! The search for a cheapest plan of the small flat task, and its certificate.
+//! The search for a cheapest plan of the small flat task, and its certificate, read back from its text.
 use crate::flat::flat;
-use np_cert::{Certificate, Entry, Limit};
+use np_cert::{Certificate, Entry, Limit, read_certificate};
 use np_evidence::{End, solve_flat};
 use std::process::Abort;
 
@@ -32,6 +32,11 @@ fn has_entries(certificate: &Certificate, wanted: &[(i128, i128, u128)]) -> bool
     true
 }
 
+/// The certificate that a text spells.
+fn certificate(rt: &(impl Abort + AllocGlobal), text: &[u8]) -> Certificate {
+    read_certificate(rt.alloc(), text).expect(rt, "the text spells a certificate")
+}
+
 /// Each state but the goal is expanded, and has the rest of the plan's cost as its bound.
 #[test]
 fn a_cheapest_plan_is_found(rt: HostRuntime) {
@@ -43,8 +48,9 @@ fn a_cheapest_plan_is_found(rt: HostRuntime) {
         }
         _ => assert!(&rt; false, "there is a plan"),
     }
-    assert_eq!(&rt; outcome.certificate.claim, Limit::Number(3));
-    assert!(&rt; has_entries(&outcome.certificate, WAY), "the entries");
+    let certificate = certificate(&rt, outcome.text.as_slice());
+    assert_eq!(&rt; certificate.claim, Limit::Number(3));
+    assert!(&rt; has_entries(&certificate, WAY), "the entries");
 }
 
 /// With a budget of two the third state comes next, at a cost of 2.
@@ -55,6 +61,7 @@ fn a_budget_is_spent(rt: HostRuntime) {
         End::Spent(bound) => assert_eq!(&rt; *bound, 2),
         _ => assert!(&rt; false, "the budget is spent"),
     }
-    assert_eq!(&rt; outcome.certificate.claim, Limit::Number(2));
-    assert!(&rt; has_entries(&outcome.certificate, FRONT), "the entries");
+    let certificate = certificate(&rt, outcome.text.as_slice());
+    assert_eq!(&rt; certificate.claim, Limit::Number(2));
+    assert!(&rt; has_entries(&certificate, FRONT), "the entries");
 }

@@ -50,7 +50,13 @@ entry_text e =
     codes "\n(entry (facts" ++ flat_map natural_text e.state.facts ++ codes ") (values" ++ flat_map value_text e.state.values ++ codes ") "
     ++ limit_text e.bound ++ reason_text e.why ++ codes ")"
 
+-- what comes before the entries
+abbrev pub head_text : Limit → List Proof → List ℕ
+head_text claim proofs = codes "(certificate 1 (claim " ++ limit_text claim ++ codes ")\n(proofs" ++ flat_map proof_text proofs ++ codes ")\n(entries"
+
+-- what comes after them
+abbrev pub end_text : List ℕ
+end_text = codes "))\n"
+
 abbrev pub certificate_text : Certificate → List ℕ
-certificate_text c =
-    codes "(certificate 1 (claim " ++ limit_text c.claim ++ codes ")\n(proofs" ++ flat_map proof_text c.proofs ++ codes ")\n(entries"
-    ++ flat_map entry_text c.entries ++ codes "))\n"
+certificate_text c = head_text c.claim c.proofs ++ flat_map entry_text c.entries ++ end_text

@@ -13,5 +13,5 @@ mod thin;
 
 pub use certificate::{Certificate, Entry, Limit, Why};
 pub use limit::LIMIT_SIZE;
-pub use print::print_certificate;
+pub use print::{print_certificate, print_head, push_end, push_entry};
 pub use read::{CertFault, read_certificate};

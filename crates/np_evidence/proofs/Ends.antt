@@ -16,12 +16,14 @@ use Rattle.np_flat.specs.Flats.{IsFlat}
 use Rattle.np_flat.specs.Plans.{Reaches}
 use Rattle.np_blind.specs.Readings.{flat_of}
 use Rattle.np_blind.specs.Spaces.{first_of, is_goal_at, next_of, IsBlind}
+use Rattle.np_cert.specs.declared.certificate.Limit.{Limit}
 use Rattle.np_cert.specs.declared.certificate.Limit.TheVariants.{Number, Absent}
 use Rattle.np_cert.specs.declared.certificate.Entry.{Entry}
 use Rattle.np_cert.specs.declared.certificate.Certificate.{Certificate}
+use Rattle.np_cert.specs.Layout.{certificate_text}
 use Rattle.np_cert.specs.Valid.{is_small}
 use Rattle.np_evidence.specs.declared.outcome.End.TheVariants as end
-use Rattle.np_evidence.specs.Certified.{IsSpentOn}
+use Rattle.np_evidence.specs.Certified.{IsCertifiedBy, IsSpentOn}
 use Rattle.np_evidence.specs.Entries.{entries_of, certificate_of}
 use Rattle.np_evidence.specs.Outcomes.{IsCheapest, IsOutcomeOf}
 use Rattle.np_evidence.specs.Searches.{HasWayBack, IsWayTo}
@@ -142,32 +144,38 @@ module _ (task : Parts) (flat : IsFlat task) (states : List StateValue) (nodes :
     }
 
 module _ (task : Parts) (flat : IsFlat task) (n : ℕ) (few : n ≤ 2 ^ 24) (tree : Tree ℤ) where
-  -- what is said of an outcome with this certificate
+  -- bytes that are the text of a certificate
+  in_text : (claim : Limit) (c : Certificate) (bytes : List ℕ) → bytes ≡ certificate_text c → IsCertifiedBy task n claim (certificate_text c) c → IsCertifiedBy task n claim bytes c
+  in_text claim c bytes written by = subst (λ (text : List ℕ). IsCertifiedBy task n claim text c) (sym written) by
+
+  -- what is said of an outcome with the text of this certificate
   pub goal_outcome : (i : ℕ) (c : IsGoalIn task tree.states tree.nodes.items i n) (steps : Vec ℕ Global) → IsWayTo tree.nodes.items i steps.items → (cost : ℕ) → c.cost ≡ cost
-      → (cert : Certificate) → certificate_of (Number cost) tree.states tree.nodes.items ≡ cert
-      → IsOutcomeOf task n (record { end = end.Plan steps cost; certificate = cert; tree = tree })
-  goal_outcome i c steps way cost is cert made =
-      subst (λ (x : Certificate). IsOutcomeOf task n (record { end = end.Plan steps cost; certificate = x; tree = tree })) made
-      (subst (λ (k : ℕ). IsOutcomeOf task n (record { end = end.Plan steps k; certificate = certificate_of (Number k) tree.states tree.nodes.items; tree = tree })) is
-      (record {
+      → (text : Vec ℕ Global) → text.items ≡ certificate_text (certificate_of (Number cost) tree.states tree.nodes.items)
+      → IsOutcomeOf task n (record { end = end.Plan steps cost; text = text })
+  goal_outcome i c steps way cost is text written =
+      subst (λ (k : ℕ). text.items ≡ certificate_text (certificate_of (Number k) tree.states tree.nodes.items) → IsOutcomeOf task n (record { end = end.Plan steps k; text = text })) is
+      (λ written. record {
+        certificate = certificate_of (Number c.cost) tree.states tree.nodes.items;
         ends = plan_ended task flat tree.states tree.nodes.items n few i c steps.items way;
-        certified = certified task flat tree.states tree.nodes.items (AtLeast c.cost) n few c.right (goal_small task flat tree.states tree.nodes.items n few i c);
-      }))
-
-  pub empty_outcome : IsRightIn task tree.states tree.nodes.items NoPlan n → (cert : Certificate) → certificate_of Absent tree.states tree.nodes.items ≡ cert
-      → IsOutcomeOf task n (record { end = end.NoPlan; certificate = cert; tree = tree })
-  empty_outcome right cert made =
-      subst (λ (x : Certificate). IsOutcomeOf task n (record { end = end.NoPlan; certificate = x; tree = tree })) made
-      (record {
-        ends = plans_cost task flat tree.states tree.nodes.items NoPlan n few right;
-        certified = certified task flat tree.states tree.nodes.items NoPlan n few right refl;
+        certified = in_text (Number c.cost) (certificate_of (Number c.cost) tree.states tree.nodes.items) text.items written
+            (certified task flat tree.states tree.nodes.items (AtLeast c.cost) n few c.right (goal_small task flat tree.states tree.nodes.items n few i c));
       })
+      written
 
-  pub spent_outcome : (bound : ℕ) → IsSpentIn task tree.states tree.nodes.items bound n → (cert : Certificate) → certificate_of (Number bound) tree.states tree.nodes.items ≡ cert
-      → IsOutcomeOf task n (record { end = end.Spent bound; certificate = cert; tree = tree })
-  spent_outcome bound spent cert made =
-      subst (λ (x : Certificate). IsOutcomeOf task n (record { end = end.Spent bound; certificate = x; tree = tree })) made
-      (record {
-        ends = (plans_cost task flat tree.states tree.nodes.items (AtLeast bound) n few spent.right, spent_on task flat tree.states tree.nodes.items n few bound spent);
-        certified = certified task flat tree.states tree.nodes.items (AtLeast bound) n few spent.right (spent_small task flat tree.states tree.nodes.items n few bound spent);
-      })
+  pub empty_outcome : IsRightIn task tree.states tree.nodes.items NoPlan n → (text : Vec ℕ Global) → text.items ≡ certificate_text (certificate_of Absent tree.states tree.nodes.items)
+      → IsOutcomeOf task n (record { end = end.NoPlan; text = text })
+  empty_outcome right text written = record {
+    certificate = certificate_of Absent tree.states tree.nodes.items;
+    ends = plans_cost task flat tree.states tree.nodes.items NoPlan n few right;
+    certified = in_text Absent (certificate_of Absent tree.states tree.nodes.items) text.items written
+        (certified task flat tree.states tree.nodes.items NoPlan n few right refl);
+  }
+
+  pub spent_outcome : (bound : ℕ) → IsSpentIn task tree.states tree.nodes.items bound n → (text : Vec ℕ Global) → text.items ≡ certificate_text (certificate_of (Number bound) tree.states tree.nodes.items)
+      → IsOutcomeOf task n (record { end = end.Spent bound; text = text })
+  spent_outcome bound spent text written = record {
+    certificate = certificate_of (Number bound) tree.states tree.nodes.items;
+    ends = (plans_cost task flat tree.states tree.nodes.items (AtLeast bound) n few spent.right, spent_on task flat tree.states tree.nodes.items n few bound spent);
+    certified = in_text (Number bound) (certificate_of (Number bound) tree.states tree.nodes.items) text.items written
+        (certified task flat tree.states tree.nodes.items (AtLeast bound) n few spent.right (spent_small task flat tree.states tree.nodes.items n few bound spent));
+  }

@@ -5,7 +5,7 @@ use Rattle.np_flat.specs.Plans.{cost_sum, Leads}
 use Rattle.np_cert.specs.declared.certificate.Limit.{Limit}
 use Rattle.np_cert.specs.declared.certificate.Limit.TheVariants.{Number, Absent}
 use Rattle.np_cert.specs.declared.certificate.Entry.{Entry}
-use Rattle.np_cert.specs.Layout.{certificate_text}
+use Rattle.np_cert.specs.declared.certificate.Certificate.{Certificate}
 use Rattle.np_evidence.specs.declared.outcome.End.{End}
 use Rattle.np_evidence.specs.declared.outcome.End.TheVariants.{Plan, NoPlan, Spent}
 use Rattle.np_evidence.specs.declared.outcome.Outcome.{Outcome}
@@ -34,7 +34,8 @@ IsTrueEnd task nodes entries (Plan numbers cost) = IsCheapest task nodes numbers
 IsTrueEnd task nodes entries NoPlan = HasNoPlan task
 IsTrueEnd task nodes entries (Spent bound) = NoPlanBelow task bound × IsSpentOn task nodes bound entries
 
--- the end is true of the flat task, and the printed text of the certificate is one of it
+-- the end is true of the flat task, and the text is a certificate of it
 pub record IsOutcomeOf (task : Parts) (nodes : ℕ) (outcome : Outcome) : Type 0 where
-  pub ends : IsTrueEnd task nodes outcome.certificate.entries outcome.end
-  pub certified : IsCertifiedBy task nodes (claim_after outcome.end) (certificate_text outcome.certificate) outcome.certificate
+  pub certificate : Certificate
+  pub ends : IsTrueEnd task nodes certificate.entries outcome.end
+  pub certified : IsCertifiedBy task nodes (claim_after outcome.end) outcome.text.items certificate

@@ -1,64 +1,62 @@
-//! The certificate of what a search has expanded.
+//! The text of the certificate of what a search has expanded.
 ghost use Rattle.std.specs.Prelude.{◌≡◌, ◌++◌, IfOk, OnOk};
+ghost use Rattle.std.specs.List.{flat_map};
 ghost use Rattle.np_frac.specs.Fractions.{whole};
 ghost use Rattle.np_state.specs.States.{value_of};
 ghost use Rattle.np_space.specs.Runs.{IsReached};
 ghost use Rattle.np_blind.specs.Spaces.{first_of, next_of};
+ghost use Rattle.np_cert.specs.Layout.{entry_text, certificate_text};
 ghost use Rattle.np_evidence.specs.Certified.{less};
 ghost use Rattle.np_evidence.specs.Entries.{entry_of, entries_at, certificate_of, AreReached};
 
 use np_blind::BlindSpace;
-use np_cert::{Certificate, Entry, Limit, Why};
+use np_cert::{Entry, Limit, Why, print_head, push_end, push_entry};
 use np_flat::Flat;
 use np_search::{Node, Tree};
 use np_state::State;
-use sqlite_items::Items;
 use std::alloc::{AllocError, Global};
 
-/// The certificate of what a search has expanded, with this claim. Out of memory is the only error.
+/// The text of the certificate of what a search has expanded, with this claim. Out of memory is the only error.
 pub(crate) fn evidence(
     alloc: Global,
     flat: &Flat,
     tree: &Tree<i128>,
     claim: Limit,
-) -> Result<Certificate, AllocError>
+) -> Result<Vec<u8>, AllocError>
     requires { AreReached flat.now tree.now.states tree.now.nodes.items }
-    ensures { IfOk result (λ c. c ≡ certificate_of claim tree.now.states tree.now.nodes.items) }
+    ensures { IfOk result (λ text. text.items ≡ certificate_text (certificate_of claim tree.now.states tree.now.nodes.items)) }
 {
     let space = BlindSpace::new(flat);
-    let mut entries = Vec::new(alloc);
+    let mut text = print_head(alloc, claim, &[])?;
     for number in 0..tree.nodes.len() {
         let node = &tree.nodes[number];
         add(
             alloc,
-            &mut entries,
+            &mut text,
             &space,
             tree.states.get(number),
             node,
             claim,
         )?;
     }
-    Ok(Certificate {
-        claim,
-        proofs: Items::new(alloc),
-        entries: Items::from_vec(entries),
-    })
+    push_end(&mut text)?;
+    Ok(text)
 }
 
 /// Adds the entry of a state, if it is expanded.
 fn add(
     alloc: Global,
-    entries: &mut Vec<Entry>,
+    text: &mut Vec<u8>,
     space: &BlindSpace,
     state: &State<i128>,
     node: &Node,
     claim: Limit,
 ) -> Result<(), AllocError>
     requires { IsReached (next_of space.now) (first_of space.now) (value_of whole state.now) }
-    ensures { OnOk result (entries.new.items ≡ entries.old.items ++ entries_at claim (value_of whole state.now) node.now) }
+    ensures { OnOk result (text.new.items ≡ text.old.items ++ flat_map entry_text (entries_at claim (value_of whole state.now) node.now)) }
 {
     if node.expanded {
-        entries.push(entry(alloc, space, state, node.cost, claim)?)?;
+        push_entry(text, &entry(alloc, space, state, node.cost, claim)?)?;
     }
     Ok(())
 }

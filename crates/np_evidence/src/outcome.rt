@@ -1,6 +1,4 @@
 //! What a search comes to.
-use np_cert::Certificate;
-use np_search::Tree;
 
 /// How a search for a cheapest plan ended. Costs aren't scaled.
 #[derive(Drop)]
@@ -18,9 +16,6 @@ pub enum End {
 pub struct Outcome {
     /// How it ended.
     pub end: End,
-    /// The certificate of what was expanded.
-    pub certificate: Certificate,
-    // What was reached. It is kept until the certificate is printed: where its many small pieces are freed before the
-    // text is allocated, the allocator first gathers them up, which takes a fifteenth of the whole time.
-    pub(crate) tree: Tree<i128>,
+    /// The text of the certificate of what was expanded.
+    pub text: Vec<u8>,
 }

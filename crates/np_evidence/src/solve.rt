@@ -61,11 +61,10 @@ fn after_goal(
 {
     let steps = steps_to(alloc, tree.nodes.as_slice(), goal, nodes)?;
     let cost = tree.nodes[goal].cost;
-    let certificate = evidence(alloc, flat, &tree, Limit::Number(u128::from(cost)))?;
+    let text = evidence(alloc, flat, &tree, Limit::Number(u128::from(cost)))?;
     Ok(Outcome {
         end: End::Plan(steps, cost),
-        certificate,
-        tree,
+        text,
     })
 }
 
@@ -81,11 +80,10 @@ fn after_empty(
     requires found { IsFoundIn flat.now _nodes (Empty tree) }
     ensures { IfOk result (IsOutcomeOf flat.now _nodes) }
 {
-    let certificate = evidence(alloc, flat, &tree, Limit::Absent)?;
+    let text = evidence(alloc, flat, &tree, Limit::Absent)?;
     Ok(Outcome {
         end: End::NoPlan,
-        certificate,
-        tree,
+        text,
     })
 }
 
@@ -102,10 +100,9 @@ fn after_spent(
     requires found { IsFoundIn flat.now _nodes (Spent tree bound) }
     ensures { IfOk result (IsOutcomeOf flat.now _nodes) }
 {
-    let certificate = evidence(alloc, flat, &tree, Limit::Number(u128::from(bound)))?;
+    let text = evidence(alloc, flat, &tree, Limit::Number(u128::from(bound)))?;
     Ok(Outcome {
         end: End::Spent(bound),
-        certificate,
-        tree,
+        text,
     })
 }

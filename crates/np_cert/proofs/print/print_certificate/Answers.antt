@@ -6,5 +6,5 @@ use Rattle.np_cert.proofs.print.print_certificate.Goals as goal
 
 pub returns-clause-read_back : goal.returns-clause-read_back
 returns-clause-read_back c written =
-    let same : c.extend_from_slice-3.new.self.items ≡ certificate_text c.args.certificate.now = search rules in
+    let same : c.push_end.new.text.items ≡ certificate_text c.args.certificate.now = search rules in
     subst (λ (bytes : List ℕ). Spells bytes c.args.certificate.now) (sym same) (certificate_text_spells c.args.certificate.now written)

@@ -3,6 +3,7 @@ use Rattle.np_space.specs.declared.bound.Bound.TheVariants.{AtLeast}
 use Rattle.np_search.specs.declared.tree.Node.{Node}
 use Rattle.np_search.proofs.Taking.{read_node}
 use Rattle.np_cert.specs.declared.certificate.Limit.TheVariants.{Number}
+use Rattle.np_cert.specs.Layout.{certificate_text}
 use Rattle.np_evidence.specs.Entries.{certificate_of}
 use Rattle.np_evidence.specs.Searches.{HasWayBack, IsWayTo}
 use Rattle.np_evidence.proofs.Nodes.{are_reached}
@@ -27,5 +28,5 @@ returns c =
     let read : c.index.result.now ≡ found.at.node = read_node nodes c.args.goal found.at.node c.index.result.now found.at.kept.found c.index.ensures in
     goal_outcome c.args.flat.now c.requires.flat c.args.nodes c.requires.few c.args.tree c.args.goal found c.in_ok-steps.steps
     (subst (λ (ns : List Node). IsWayTo ns c.args.goal c.in_ok-steps.steps.items) c.as_slice.ensures.value c.in_ok-steps.ensures)
-    c.index.result.now.cost (sym found.at.cost_is ∙ ap (λ (n : Node). n.cost) (sym read)) c.in_ok-certificate.certificate
-    (ap (λ (k : ℕ). certificate_of (Number k) c.args.tree.states nodes) (sym c.from.ensures) ∙ sym c.in_ok-certificate.ensures)
+    c.index.result.now.cost (sym found.at.cost_is ∙ ap (λ (n : Node). n.cost) (sym read)) c.in_ok-text.text
+    (c.in_ok-text.ensures ∙ ap (λ (k : ℕ). certificate_text (certificate_of (Number k) c.args.tree.states nodes)) c.from.ensures)
