@@ -1,23 +1,18 @@
-; An unsolvable one: a large coin is broken into 3 small ones, and 4 small ones are joined
-; into a large one.
+; An unsolvable one: a large coin is broken into 3 small ones, and 4 small ones are joined into a large one.
 ;
-; 3 * large + small never grows: breaking keeps it, joining lowers it by 1. It is 7 at the
-; start and the goal asks for 8, so there is no plan of any length. The search doesn't see
-; that invariant; it ends since only 12 states are reachable, and none is a goal:
-; `Unsolvable, weak 0`, status 10.
+; By hand, for the problem beside it: 3 * large + small never grows, for breaking keeps it and joining lowers it by 1. It is 7 at the
+; start and the goal asks for 8, so there is no plan of any length. The search doesn't see that; it ends since only 12 states
+; are reachable, and none is a goal.
 ;
-; In the order of the search the last of the 12 is no large coin and 3 small ones, 10 steps
-; from the start. So with NODES 12 the answer is the same, and with NODES 11 it is
-; `Budget spent 11, bound 10, weak 0`, status 11.
+; The last of the 12 has no large coin and 3 small ones, and is 10 steps from the start. So with NODES 12 the answer is the same,
+; and with NODES 11 it is `Budget spent 11, bound 10, weak 0`.
 (define (domain change)
   (:functions (large) (small))
-
   (:action break
     :parameters ()
-    :precondition (and (>= (large) 1))
+    :precondition (>= (large) 1)
     :effect (and (decrease (large) 1) (increase (small) 3)))
-
   (:action join
     :parameters ()
-    :precondition (and (>= (small) 4))
+    :precondition (>= (small) 4)
     :effect (and (decrease (small) 4) (increase (large) 1))))

@@ -2,4 +2,4 @@
 (define (problem eight-small)
   (:domain change)
   (:init (= (large) 2) (= (small) 1))
-  (:goal (and (>= (small) 8))))
+  (:goal (>= (small) 8)))

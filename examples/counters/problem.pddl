@@ -1,9 +1,6 @@
-; From 4, 2, 0 to x < y < z.
+; From 5, 3, 2, 0 to a < b < c < d.
 (define (problem ascending)
   (:domain counters)
-  (:init
-    (= (x) 4) (= (x-room) 0)
-    (= (y) 2) (= (y-room) 2)
-    (= (z) 0) (= (z-room) 4)
-    (= (x-to-y) -2) (= (y-to-z) -2))
-  (:goal (and (>= (x-to-y) 1) (>= (y-to-z) 1))))
+  (:objects a b c d - counter)
+  (:init (= (greatest) 5) (= (value a) 5) (= (value b) 3) (= (value c) 2) (= (value d) 0))
+  (:goal (and (< (value a) (value b)) (< (value b) (value c)) (< (value c) (value d)))))

@@ -1,27 +1,23 @@
 ; The three cups: a step turns two of them at once, and all shall stand upright.
 ;
-; Turning two of one kind changes `upright` by 2, and turning one of each kind by nothing. So
-; `upright`, which is 2 at the start, stays even and is never 3. There are two states, 2
-; upright and none; each leads to the other, and neither is a goal: `Unsolvable, weak 0`,
-; status 10.
+; By hand: a step changes the number of cups that are upright by 2 or by nothing. For the problem beside it that number is 2 at the
+; start, so it stays even and is never 3. There are four states, the three with two cups upright and the one with none, and from
+; each the steps lead to these four. So the search ends: there is no plan.
 ;
-; The certificate has two entries. Each says that there is no plan from its state, and rests
-; on the other. That does no harm: a plan from one state would hold a shorter plan from one of
-; the two, and plans don't grow shorter without end.
+; certificate.txt has an entry for each of the four. Each says that there is no plan from its state, and rests on others, in a
+; circle. That does no harm: a plan from one of them would hold a shorter plan from another, and plans don't grow shorter without end.
 (define (domain cups)
-  (:functions (upright) (turned))
-
+  (:types cup)
+  (:predicates (upright ?c - cup))
   (:action turn-two-over
-    :parameters ()
-    :precondition (and (>= (upright) 2))
-    :effect (and (decrease (upright) 2) (increase (turned) 2)))
-
+    :parameters (?a ?b - cup)
+    :precondition (and (not (= ?a ?b)) (upright ?a) (upright ?b))
+    :effect (and (not (upright ?a)) (not (upright ?b))))
   (:action turn-two-up
-    :parameters ()
-    :precondition (and (>= (turned) 2))
-    :effect (and (increase (upright) 2) (decrease (turned) 2)))
-
+    :parameters (?a ?b - cup)
+    :precondition (and (not (= ?a ?b)) (not (upright ?a)) (not (upright ?b)))
+    :effect (and (upright ?a) (upright ?b)))
   (:action turn-one-of-each
-    :parameters ()
-    :precondition (and (>= (upright) 1) (>= (turned) 1))
-    :effect (and)))
+    :parameters (?a ?b - cup)
+    :precondition (and (upright ?a) (not (upright ?b)))
+    :effect (and (not (upright ?a)) (upright ?b))))

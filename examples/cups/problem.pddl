@@ -1,5 +1,6 @@
 ; Two upright and one turned over; all three upright.
 (define (problem all-upright)
   (:domain cups)
-  (:init (= (upright) 2) (= (turned) 1))
-  (:goal (and (>= (upright) 3))))
+  (:objects left middle right - cup)
+  (:init (upright left) (upright middle))
+  (:goal (and (upright left) (upright middle) (upright right))))

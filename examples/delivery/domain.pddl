@@ -1,30 +1,29 @@
-; A delivery: a van that takes 2 boxes brings them from a depot to a shop. Where the van is
-; stands in two counters, of which one is 1 and the other 0; `room` is what still fits.
+; Trucks bring boxes from place to place. A truck has room for so much, burns fuel on each way, and fills up at stations by cans of
+; 4 litres, as far as its tank takes them.
 ;
-; 5 boxes shall be at the shop, and the van begins empty at the depot. Each box is loaded and
-; unloaded, which makes 10 steps. Each drive to the shop brings 2 boxes at most, so there are
-; at least 3, and between two of them a drive back, so at least 2 of these: 15 steps at least.
-; Twice load, load, go, unload, unload, return, and then load, go, unload are 15 steps:
-; `Optimal 15, weak 0`, status 0.
+; By hand, for the problem beside it: the boxes take 4 of room and the truck has 2, so it drives to the shop at least twice and
+; back at least once: 3 drives of 5. Each box is loaded and unloaded once at least: 6 at a cost of 1. Three drives burn 12 litres
+; and 8 are there, so at least one can at a cost of 2: no plan costs less than 15 + 6 + 2 = 23.
+; The crate first, back to the depot with an empty tank, one can, and the two bags: 23, in 10 steps.
 (define (domain delivery)
-  (:functions (at-depot) (at-shop) (waiting) (loaded) (room) (delivered))
-
+  (:types truck box - thing place)
+  (:predicates (at ?t - thing ?p - place) (in ?b - box ?t - truck) (station ?p - place))
+  (:functions (distance ?from ?to - place) (fuel ?t - truck) (tank ?t - truck) (burn ?t - truck)
+    (size ?b - box) (carried ?t - truck) (capacity ?t - truck) (total-cost))
+  (:action drive
+    :parameters (?t - truck ?from ?to - place)
+    :precondition (and (at ?t ?from) (not (= ?from ?to)) (>= (fuel ?t) (* (burn ?t) (distance ?from ?to))))
+    :effect (and (not (at ?t ?from)) (at ?t ?to)
+      (decrease (fuel ?t) (* (burn ?t) (distance ?from ?to))) (increase (total-cost) (distance ?from ?to))))
+  (:action refuel
+    :parameters (?t - truck ?p - place)
+    :precondition (and (at ?t ?p) (station ?p) (<= (+ (fuel ?t) 4) (tank ?t)))
+    :effect (and (increase (fuel ?t) 4) (increase (total-cost) 2)))
   (:action load
-    :parameters ()
-    :precondition (and (>= (at-depot) 1) (>= (waiting) 1) (>= (room) 1))
-    :effect (and (decrease (waiting) 1) (increase (loaded) 1) (decrease (room) 1)))
-
+    :parameters (?b - box ?t - truck ?p - place)
+    :precondition (and (at ?b ?p) (at ?t ?p) (<= (+ (carried ?t) (size ?b)) (capacity ?t)))
+    :effect (and (not (at ?b ?p)) (in ?b ?t) (increase (carried ?t) (size ?b)) (increase (total-cost) 1)))
   (:action unload
-    :parameters ()
-    :precondition (and (>= (at-shop) 1) (>= (loaded) 1))
-    :effect (and (decrease (loaded) 1) (increase (room) 1) (increase (delivered) 1)))
-
-  (:action go
-    :parameters ()
-    :precondition (and (>= (at-depot) 1))
-    :effect (and (decrease (at-depot) 1) (increase (at-shop) 1)))
-
-  (:action return
-    :parameters ()
-    :precondition (and (>= (at-shop) 1))
-    :effect (and (decrease (at-shop) 1) (increase (at-depot) 1))))
+    :parameters (?b - box ?t - truck ?p - place)
+    :precondition (and (in ?b ?t) (at ?t ?p))
+    :effect (and (not (in ?b ?t)) (at ?b ?p) (decrease (carried ?t) (size ?b)) (increase (total-cost) 1))))

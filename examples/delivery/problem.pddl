@@ -1,5 +1,10 @@
-; 5 boxes with a van for 2.
-(define (problem five-boxes)
+; A crate of size 2 and two bags of size 1, with a truck for 2.
+(define (problem three-boxes)
   (:domain delivery)
-  (:init (= (at-depot) 1) (= (at-shop) 0) (= (waiting) 5) (= (loaded) 0) (= (room) 2) (= (delivered) 0))
-  (:goal (and (>= (delivered) 5))))
+  (:objects t1 - truck crate bag1 bag2 - box depot shop - place)
+  (:init (at t1 depot) (at crate depot) (at bag1 depot) (at bag2 depot) (station depot)
+    (= (distance depot shop) 5) (= (distance shop depot) 5)
+    (= (fuel t1) 8) (= (tank t1) 8) (= (burn t1) 0.8)
+    (= (size crate) 2) (= (size bag1) 1) (= (size bag2) 1) (= (carried t1) 0) (= (capacity t1) 2) (= (total-cost) 0))
+  (:goal (and (at crate shop) (at bag1 shop) (at bag2 shop)))
+  (:metric minimize (total-cost)))

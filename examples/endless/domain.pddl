@@ -1,20 +1,14 @@
-; One that spends its budget: steps of 2 to the right and to the left, and the goal is to
-; stand at exactly 1. `west` mirrors `east`, so that two lower limits say `exactly`.
+; One that spends its budget: steps of 2 to the right and to the left on a line without end, and the goal is to stand at exactly 1.
 ;
-; `east` stays even, so there is no plan. But the line has no end, so no search that only
-; looks at states can find that out: it spends each budget.
-; d steps reach 2d and -2d as new places, so the states of fewer than d steps are 2d - 1.
-; With the default budget of 100000 the next state is the second one at 50000 steps:
-; `Budget spent 100000, bound 50000, weak 0`, status 11. With NODES 10 the bound is 5.
+; By hand: `place` stays even, so there is no plan. But no search that only looks at states can find that out: it spends each
+; budget. d steps reach 2d and -2d as new places, so 2d - 1 states are reached by fewer than d steps. With the default budget of
+; 100000 the states of fewer than 50000 steps are expanded, which are 99999, and one of 50000 steps; the other one waits, so the
+; bound is 50000. With NODES 10 these are 9 states of fewer than 5 steps and one of 5, and the bound is 5.
 (define (domain endless)
-  (:functions (east) (west))
-
+  (:functions (place))
   (:action right
     :parameters ()
-    :precondition (and)
-    :effect (and (increase (east) 2) (decrease (west) 2)))
-
+    :effect (increase (place) 2))
   (:action left
     :parameters ()
-    :precondition (and)
-    :effect (and (decrease (east) 2) (increase (west) 2))))
+    :effect (decrease (place) 2)))

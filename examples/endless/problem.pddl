@@ -1,5 +1,5 @@
 ; From 0 to exactly 1.
 (define (problem to-one)
   (:domain endless)
-  (:init (= (east) 0) (= (west) 0))
-  (:goal (and (>= (east) 1) (>= (west) -1))))
+  (:init (= (place) 0))
+  (:goal (= (place) 1)))

@@ -1,20 +1,16 @@
-; Fuel and stops: a truck burns 3 litres a stage of 5 km, and may stop to take 4 litres.
-; Only lower limits can be tested in this form, so the tank's upper limit is a counter of
-; its own: `room` is what still fits, and falls as `fuel` grows.
+; A van drives from place to place, burns fuel on the way, and may stop at a pump for 2 litres, as far as its tank takes them.
+; A kilometre costs 1, a stop 2. A road that has no length isn't there.
 ;
-; 15 km are 3 stages, which burn 9 litres; 5 are there, so at least one stop is needed, and
-; no plan has fewer than 4 steps. At the start only 2 litres fit, so the stop can't come
-; first, and 5 litres last for one stage only: the one plan of 4 steps is
-; (drive) (refuel) (drive) (drive). `Optimal 4, weak 0`, status 0.
+; By hand, for the problem beside it: the van has 4.5 litres and burns half a litre a kilometre. The direct road to the town takes
+; 5 litres, so the first drive goes to the ford. There 2.5 litres are left, and the road on takes 3.5. To drive back makes it
+; less. So it has to stop, which makes 4.5 litres, and then the road on is the cheapest way: 4 + 2 + 7 = 13.
 (define (domain fuel)
-  (:functions (travelled) (fuel) (room))
-
-  (:action drive
-    :parameters ()
-    :precondition (and (>= (fuel) 3))
-    :effect (and (increase (travelled) 5) (decrease (fuel) 3) (increase (room) 3)))
-
-  (:action refuel
-    :parameters ()
-    :precondition (and (>= (room) 4))
-    :effect (and (increase (fuel) 4) (decrease (room) 4))))
+  (:types van place) (:predicates (at ?v - van ?p - place) (pump ?p - place))
+  (:functions (road ?from ?to - place) (fuel ?v - van) (tank ?v - van) (burn ?v - van) (total-cost))
+  (:action drive :parameters (?v - van ?from ?to - place)
+    :precondition (and (at ?v ?from) (>= (fuel ?v) (* (burn ?v) (road ?from ?to))))
+    :effect (and (not (at ?v ?from)) (at ?v ?to)
+      (decrease (fuel ?v) (* (burn ?v) (road ?from ?to))) (increase (total-cost) (road ?from ?to))))
+  (:action refuel :parameters (?v - van ?p - place)
+    :precondition (and (at ?v ?p) (pump ?p) (<= (+ (fuel ?v) 2) (tank ?v)))
+    :effect (and (increase (fuel ?v) 2) (increase (total-cost) 2))))

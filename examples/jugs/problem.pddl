@@ -1,5 +1,7 @@
-; Exactly 4 litres in the large jug, from two empty ones.
+; Exactly 4 litres in the large jug of 5, with a small one of 3, from two empty ones.
 (define (problem four-litres)
   (:domain jugs)
-  (:init (= (small) 0) (= (small-room) 3) (= (large) 0) (= (large-room) 5))
-  (:goal (and (>= (large) 4) (>= (large-room) 1))))
+  (:objects small large - jug one two three four five - amount)
+  (:init (= (size small) 3) (= (size large) 5) (= (level small) 0) (= (level large) 0)
+    (= (litres one) 1) (= (litres two) 2) (= (litres three) 3) (= (litres four) 4) (= (litres five) 5))
+  (:goal (= (level large) 4)))

@@ -1,5 +1,6 @@
-; One to save, from the origin.
+; One to save, where x + y is 7 to 8 and y - x is 4 to 5, from the origin.
 (define (problem one-aboard)
   (:domain sailing)
-  (:init (= (ne) 0) (= (nw) 0) (= (sw) 0) (= (se) 0) (= (saved) 0))
-  (:goal (and (>= (saved) 1))))
+  (:objects b - boat p - person)
+  (:init (= (x b) 0) (= (y b) 0) (= (sum p) 7) (= (difference p) 4))
+  (:goal (saved p)))

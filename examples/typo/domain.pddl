@@ -1,4 +1,4 @@
-; What a refusal looks like: the effect names a predicate that isn't declared, `lit` for `light`.
+; What a refusal looks like: the effect, in line 8, names a predicate that isn't declared, `lit` for `light`.
 (define (domain lamps)
   (:types lamp)
   (:predicates (light ?l - lamp))

@@ -1,12 +1,11 @@
-; A van takes crates from place to place. It needs fuel for each road and has room for so much weight, and there are pumps.
-; `run` takes this domain; `solve` and `check` don't yet, since they know the first form alone. `list` refuses it, since a cost of 0.25
-; isn't whole.
+; A van takes crates from place to place. It needs fuel for each road and has room for so much weight, and there are pumps. Fuel and
+; weights are decimals; the roads are a table that no step changes, in which a pair of places without a road has no length.
 ;
-; By hand, for the problem beside it: the van can't take both crates at once, for 1.5 and 2 together are more than 2.5. So the
-; flour goes to the town first, then the van comes back for the nails. The roads are 4, then 6 three times, which is 22 in cost
-; and 11 in fuel, at half a litre each. There are 3 litres, so it has to fill up twice with 4, at a cost of 2 each time: at the ford,
-; where the only pump is, with 1 litre left, which makes 9; the three roads from there take 3 each, and none is left. Two crates
-; are taken at 0.25 each. In all 22 + 4 + 0.5, which is 53/2.
+; By hand, for the problem beside it: the van can't take both crates at once, for 1.5 and 2 together are more than 2.5. So two
+; drives go from the ford to the town, and one back between them; and one goes from the mill to the ford at the start. That makes
+; 6 + 6 + 6 + 4 = 22, and takes 11 litres, at half a litre each. There are 3, so it has to fill up twice with 4, at a cost of 2 each
+; time. Each crate is taken once at least, at a cost of 1: no plan costs less than 22 + 4 + 2 = 28.
+; The plan of plan.txt fills up twice at the ford, with 1 litre left, which makes 9; the three roads from there take 3 each.
 (define (domain vans)
   (:requirements :typing :numeric-fluents :equality)
   (:types van crate - movable movable place - object)
@@ -25,7 +24,7 @@
   (:action take
     :parameters (?c - crate ?v - van ?p - place)
     :precondition (and (at ?c ?p) (at ?v ?p) (<= (+ (carried ?v) (weight ?c)) (room ?v)))
-    :effect (and (not (at ?c ?p)) (in ?c ?v) (increase (carried ?v) (weight ?c)) (increase (total-cost) 0.25)))
+    :effect (and (not (at ?c ?p)) (in ?c ?v) (increase (carried ?v) (weight ?c)) (increase (total-cost) 1)))
   (:action leave
     :parameters (?c - crate ?v - van ?p - place)
     :precondition (and (in ?c ?v) (at ?v ?p))

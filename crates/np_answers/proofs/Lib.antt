@@ -1,3 +1,2 @@
 pub mod Apart
-mod Limits
 mod Numbers

@@ -1,6 +1,7 @@
 -- SCAFFOLDING. What the commands tell, as the code has them.
 use Rattle.std.specs.Borrow.{Bor}
-use Rattle.std.specs.Prelude.{ℕ, List}
+use Rattle.std.specs.Prelude.{ℕ, List, Option}
+use Rattle.std.specs.Option.{option_map}
 use Rattle.np_answers.specs.declared.words.Inputs.{Inputs as InputWords}
 use Rattle.np_answers.specs.declared.words.Solve.{Solve as SolveWords}
 use Rattle.np_answers.specs.declared.words.Check.{Check as CheckWords}
@@ -20,14 +21,14 @@ told_solve command = record {
   nodes = command.nodes;
 }
 
+abbrev pub told_plan : Option (Bor (List ℕ)) → Option (List ℕ)
+told_plan plan = option_map (λ name. name.now) plan
+
 abbrev pub told_check : CheckWords → Check
-told_check command = record { inputs = told_inputs command.inputs; certificate = command.certificate.now }
+told_check command = record { inputs = told_inputs command.inputs; certificate = command.certificate.now; plan = told_plan command.plan }
 
 abbrev pub told_run : RunWords → Run
 told_run command = record { inputs = told_inputs command.inputs; plan = command.plan.now }
-
-abbrev pub told_names : InputWords × Bor (List ℕ) → Inputs × List ℕ
-told_names names = (told_inputs names.0, names.1.now)
 
 abbrev pub told : CommandWords → Command
 told (words.Solve command) = solving (told_solve command)

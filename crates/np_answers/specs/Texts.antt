@@ -13,7 +13,7 @@ use Rattle.np_cert.specs.declared.certificate.Limit.TheVariants.{Number, Absent}
 use Rattle.np_answers.specs.declared.answer.File.{File}
 use Rattle.np_answers.specs.declared.answer.File.TheVariants.{Domain, Problem, Certificate, Plan}
 use Rattle.np_answers.specs.declared.answer.refusal.Refusal.{Refusal}
-use Rattle.np_answers.specs.declared.answer.refusal.Refusal.TheVariants.{TooLong, Syntax, NumberWide, Typing, StampOrder, UnknownStep, StepWide, Task, AtSpot, PairNotBuilt, CertificateNotBuilt}
+use Rattle.np_answers.specs.declared.answer.refusal.Refusal.TheVariants.{TooLong, Syntax, NumberWide, Typing, StampOrder, UnknownStep, StepWide, Task, AtSpot, CertificateNotBuilt}
 use Rattle.np_answers.specs.declared.answer.refusal.TaskReason.{TaskReason}
 use Rattle.np_answers.specs.declared.answer.refusal.TaskReason.TheVariants as task
 use Rattle.np_answers.specs.declared.answer.refusal.SpotReason.{SpotReason}
@@ -21,9 +21,9 @@ use Rattle.np_answers.specs.declared.answer.refusal.SpotReason.TheVariants as sp
 use Rattle.np_answers.specs.declared.answer.solve.SolveAnswer.{SolveAnswer}
 use Rattle.np_answers.specs.declared.answer.solve.SolveAnswer.TheVariants.{Optimal, Unsolvable, Spent}
 use Rattle.np_answers.specs.declared.answer.check.CheckAnswer.{CheckAnswer}
-use Rattle.np_answers.specs.declared.answer.check.CheckAnswer.TheVariants.{Yes, No}
+use Rattle.np_answers.specs.declared.answer.check.CheckAnswer.TheVariants.{Yes, YesPlan, No}
 use Rattle.np_answers.specs.declared.answer.check.Fault.{Fault}
-use Rattle.np_answers.specs.declared.answer.check.Fault.TheVariants.{ProofFails, Repeats, Unjustified, ClaimAbove}
+use Rattle.np_answers.specs.declared.answer.check.Fault.TheVariants.{ProofFails, Repeats, Unjustified, ClaimAbove, Stuck as PlanStuck, NoGoal as PlanNoGoal, OtherCost}
 use Rattle.np_answers.specs.declared.answer.Answer.{Answer}
 use Rattle.np_answers.specs.declared.answer.Answer.TheVariants.{Usage, CannotRead, Refused, Solved, Checked, Ran, Listed, CannotWrite, OutOfMemory}
 
@@ -86,7 +86,6 @@ refusal_text (UnknownStep place) = text_at Plan place (codes "unknown step")
 refusal_text (StepWide step) = codes "Refused: number wide: plan step " ++ decimal step ++ codes "\n"
 refusal_text (Task reason) = codes "Refused: " ++ task_reason_text reason ++ codes "\n"
 refusal_text (AtSpot reason text) = codes "Refused: " ++ spot_reason_text reason ++ codes ": " ++ text ++ codes "\n"
-refusal_text PairNotBuilt = codes "Refused: not built yet\n"
 refusal_text CertificateNotBuilt = codes "Refused: not built yet\n"
 
 abbrev pub solve_text : SolveAnswer → List ℕ
@@ -99,10 +98,14 @@ fault_text (ProofFails proof) = codes "No: proof " ++ decimal proof ++ codes " f
 fault_text (Repeats entry) = codes "No: entry " ++ decimal entry ++ codes " repeats a state\n"
 fault_text (Unjustified entry) = codes "No: entry " ++ decimal entry ++ codes " is not justified\n"
 fault_text ClaimAbove = codes "No: the claim is above the start's bound\n"
+fault_text (PlanStuck step) = codes "No: step " ++ decimal step ++ codes " is not applicable\n"
+fault_text PlanNoGoal = codes "No: the goal does not hold at the end\n"
+fault_text (OtherCost cost claim) = codes "No: the plan costs " ++ decimal cost ++ codes " and the claim is " ++ decimal claim ++ codes "\n"
 
 abbrev pub check_text : CheckAnswer → List ℕ
 check_text (Yes (Number claim)) = codes "Yes: no plan costs less than " ++ decimal claim ++ codes "\n"
 check_text (Yes Absent) = codes "Yes: there is no plan\n"
+check_text (YesPlan cost) = codes "Yes: the plan costs " ++ decimal cost ++ codes " and no plan costs less\n"
 check_text (No fault) = fault_text fault
 
 -- a whole number, or a fraction in lowest terms
@@ -117,7 +120,7 @@ run_text (Stuck step) = codes "Not a plan: step " ++ decimal step ++ codes " is 
 run_text (NoCost step) = codes "Not a plan: step " ++ decimal step ++ codes " has no cost\n"
 
 abbrev pub text_of : Answer → List ℕ
-text_of Usage = codes "usage: solve DOMAIN PROBLEM PLAN CERT [NODES]\n       check DOMAIN PROBLEM CERT\n       run DOMAIN PROBLEM PLAN\n       list DOMAIN PROBLEM\n"
+text_of Usage = codes "usage: solve DOMAIN PROBLEM PLAN CERT [NODES]\n       check DOMAIN PROBLEM CERT [PLAN]\n       run DOMAIN PROBLEM PLAN\n       list DOMAIN PROBLEM\n"
 text_of (CannotRead file) = codes "Refused: cannot read " ++ name_of file ++ codes "\n"
 text_of (Refused refusal) = refusal_text refusal
 text_of (Solved answer) = solve_text answer
@@ -134,6 +137,7 @@ solve_status (Spent nodes bound) = 11
 
 abbrev pub check_status : CheckAnswer → ℕ
 check_status (Yes claim) = 0
+check_status (YesPlan cost) = 0
 check_status (No fault) = 6
 
 abbrev pub run_status : RunEnd → ℕ

@@ -1,9 +1,8 @@
 -- The words of the commands.
-use Rattle.std.specs.Prelude.{ℕ, ◌+◌, ◌-◌, ◌*◌, Bool, ◌&&◌, not, List, [], ◌∷◌, Option, Some, None, codes, nat_le, if◌then◌else◌}
+use Rattle.std.specs.Prelude.{ℕ, ◌+◌, ◌-◌, ◌*◌, ◌^◌, Bool, ◌&&◌, not, List, [], ◌∷◌, Option, Some, None, codes, nat_le, if◌then◌else◌}
 use Rattle.std.specs.Char.{is_ascii_digit}
 use Rattle.std.specs.Option.{option_map, option_or}
 use Rattle.std.specs.Str.{bytes_eq}
-use Rattle.np_answers.specs.declared.words.TheConstants.{DEFAULT_NODES, MOST_NODES}
 
 -- the names of the pair of files that a command reads first
 pub record Inputs : Type 0 where
@@ -17,10 +16,11 @@ pub record Solve : Type 0 where
   pub certificate : List ℕ
   pub nodes : ℕ
 
--- what `check` is told: the pair, and the certificate
+-- what `check` is told: the pair, the certificate, and the plan, where it is told one
 pub record Check : Type 0 where
   pub inputs : Inputs
   pub certificate : List ℕ
+  pub plan : Option (List ℕ)
 
 -- what `run` is told: the pair, and the plan
 pub record Run : Type 0 where
@@ -39,10 +39,10 @@ abbrev pub number_from : ℕ → List ℕ → Option ℕ
 number_from n [] = Some n
 number_from n (byte ∷ bytes) = if is_ascii_digit byte then number_from (n * 10 + (byte - 48)) bytes else None
 
--- a number, where it is at most the greatest budget
+-- a number, where it is at most 2^24, which is the greatest budget
 abbrev pub at_most_all : Option ℕ → Option ℕ
 at_most_all None = None
-at_most_all (Some n) = if nat_le n MOST_NODES then Some n else None
+at_most_all (Some n) = if nat_le n (2 ^ 24) then Some n else None
 
 -- a number from 1 to the greatest budget in decimal digits without a leading zero
 abbrev pub nodes_of : List ℕ → Option ℕ
@@ -57,7 +57,7 @@ is_apart domain problem plan certificate =
 
 -- where the words name a budget, it is this
 abbrev pub budget_of : List (List ℕ) → Option ℕ
-budget_of [] = Some DEFAULT_NODES
+budget_of [] = Some 100000
 budget_of (word ∷ []) = nodes_of word
 budget_of (word ∷ other ∷ words) = None
 
@@ -69,19 +69,25 @@ solve_of (command ∷ domain ∷ problem ∷ plan ∷ certificate ∷ words) =
     else None
 solve_of words = None
 
--- the pair and the third file that words name after this word
-abbrev pub names_after : List ℕ → List (List ℕ) → Option (Inputs × List ℕ)
-names_after first (command ∷ domain ∷ problem ∷ third ∷ []) =
-    if bytes_eq command first then Some (record { domain = domain; problem = problem }, third) else None
-names_after first words = None
+-- where the words name a plan, it is this
+abbrev pub plan_of : List (List ℕ) → Option (Option (List ℕ))
+plan_of [] = Some None
+plan_of (word ∷ []) = Some (Some word)
+plan_of (word ∷ other ∷ words) = None
 
--- `check DOMAIN PROBLEM CERT`
+-- `check DOMAIN PROBLEM CERT [PLAN]`
 abbrev pub check_of : List (List ℕ) → Option Check
-check_of words = option_map (λ names. record { inputs = names.0; certificate = names.1 }) (names_after (codes "check") words)
+check_of (command ∷ domain ∷ problem ∷ certificate ∷ words) =
+    if bytes_eq command (codes "check")
+    then option_map (λ plan. record { inputs = record { domain = domain; problem = problem }; certificate = certificate; plan = plan }) (plan_of words)
+    else None
+check_of words = None
 
 -- `run DOMAIN PROBLEM PLAN`
 abbrev pub run_of : List (List ℕ) → Option Run
-run_of words = option_map (λ names. record { inputs = names.0; plan = names.1 }) (names_after (codes "run") words)
+run_of (command ∷ domain ∷ problem ∷ plan ∷ []) =
+    if bytes_eq command (codes "run") then Some (record { inputs = record { domain = domain; problem = problem }; plan = plan }) else None
+run_of words = None
 
 -- `list DOMAIN PROBLEM`
 abbrev pub list_of : List (List ℕ) → Option Inputs

@@ -69,7 +69,7 @@ impl Answer {
         match self {
             Answer::Usage => String::from_str(
                 alloc,
-                "usage: solve DOMAIN PROBLEM PLAN CERT [NODES]\n       check DOMAIN PROBLEM CERT\n       run DOMAIN PROBLEM PLAN\n       list DOMAIN PROBLEM\n",
+                "usage: solve DOMAIN PROBLEM PLAN CERT [NODES]\n       check DOMAIN PROBLEM CERT [PLAN]\n       run DOMAIN PROBLEM PLAN\n       list DOMAIN PROBLEM\n",
             ),
             Answer::CannotRead(file) => format!(in alloc; "Refused: cannot read {}\n", file.name()),
             Answer::Refused(refusal) => refusal.text(alloc),

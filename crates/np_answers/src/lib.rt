@@ -10,4 +10,4 @@ mod words;
 pub use answer::{Answer, CheckAnswer, Fault, File, Refusal, SolveAnswer, SpotReason, TaskReason};
 pub use output::say;
 pub use text::Text;
-pub use words::{Check, Command, Inputs, MOST_NODES, Run, Solve, command_words};
+pub use words::{Check, Command, Inputs, Run, Solve, command_words};

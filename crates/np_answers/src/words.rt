@@ -1,10 +1,9 @@
 //! The words of the commands.
-ghost use Rattle.std.specs.Prelude.{◌≡◌, ◌≤◌, map, string_bytes, IfSome, Some, false};
+ghost use Rattle.std.specs.Prelude.{◌≡◌, ◌≤◌, ◌^◌, map, string_bytes, IfSome, Some, false};
 ghost use Rattle.std.specs.Str.{bytes_eq};
 ghost use Rattle.std.specs.Option.{option_map};
-ghost use Rattle.np_answers.specs.Words.{listing, solve_of, check_of, run_of, list_of, command_of, names_after, budget_of, nodes_of, is_apart};
-ghost use Rattle.np_answers.specs.declared.words.TheConstants.{MOST_NODES};
-ghost use Rattle.np_answers.specs.CommandSteps.{told, told_solve, told_check, told_run, told_inputs, told_names};
+ghost use Rattle.np_answers.specs.Words.{listing, solve_of, check_of, run_of, list_of, plan_of, command_of, budget_of, nodes_of, is_apart};
+ghost use Rattle.np_answers.specs.CommandSteps.{told, told_solve, told_check, told_run, told_inputs, told_plan};
 ghost use Rattle.np_answers.specs.declared.words.Solve.{Solve as SolveWords};
 ghost use Rattle.np_answers.specs.declared.words.Command.TheVariants as fits;
 
@@ -12,7 +11,7 @@ ghost use Rattle.np_answers.specs.declared.words.Command.TheVariants as fits;
 const DEFAULT_NODES: u32 = 100_000;
 
 /// The most states that `solve` expands.
-pub const MOST_NODES: u32 = 1 << 24;
+const MOST_NODES: u32 = 1 << 24;
 
 /// The names of the pair of files that a command reads first.
 #[derive(Clone, Copy)]
@@ -30,11 +29,12 @@ pub struct Solve<'a> {
     pub nodes: u32,
 }
 
-/// What `check` is told: the pair, and the certificate.
+/// What `check` is told: the pair, the certificate, and the plan, where it is told one.
 #[derive(Clone, Copy)]
 pub struct Check<'a> {
     pub inputs: Inputs<'a>,
     pub certificate: &'a str,
+    pub plan: Option<&'a str>,
 }
 
 /// What `run` is told: the pair, and the plan.
@@ -58,7 +58,7 @@ pub enum Command<'a> {
 pub fn command_words(words: &[String]) -> Option<Command<'_>>
     ensures told { option_map told result ≡ command_of (map string_bytes words.now) }
     ensures some_nodes { (command : SolveWords) → result ≡ Some (fits.Solve command) → 1 ≤ command.nodes }
-    ensures few_nodes { (command : SolveWords) → result ≡ Some (fits.Solve command) → command.nodes ≤ MOST_NODES }
+    ensures few_nodes { (command : SolveWords) → result ≡ Some (fits.Solve command) → command.nodes ≤ 2 ^ 24 }
     ensures apart { (command : SolveWords) → result ≡ Some (fits.Solve command) → bytes_eq command.plan.now command.certificate.now ≡ false }
 {
     match solve_words(words) {
@@ -88,7 +88,7 @@ fn list_command(words: &[String]) -> Option<Command<'_>>
 fn solve_words(words: &[String]) -> Option<Solve<'_>>
     ensures told { option_map told_solve result ≡ solve_of (map string_bytes words.now) }
     ensures some_nodes { IfSome result (λ solve. 1 ≤ solve.nodes) }
-    ensures few_nodes { IfSome result (λ solve. solve.nodes ≤ MOST_NODES) }
+    ensures few_nodes { IfSome result (λ solve. solve.nodes ≤ 2 ^ 24) }
     ensures apart { IfSome result (λ solve. bytes_eq solve.plan.now solve.certificate.now ≡ false) }
 {
     let [command, domain, problem, plan, certificate, rest @ ..] = words else {
@@ -116,23 +116,55 @@ fn solve_words(words: &[String]) -> Option<Solve<'_>>
     })
 }
 
-/// What the words tell `check`; none where they aren't `check DOMAIN PROBLEM CERT`.
+/// What the words tell `check`; none where they aren't `check DOMAIN PROBLEM CERT [PLAN]`.
 fn check_words(words: &[String]) -> Option<Check<'_>>
     ensures { option_map told_check result ≡ check_of (map string_bytes words.now) }
 {
-    let (inputs, certificate) = names_after("check", words)?;
+    let [command, domain, problem, certificate, rest @ ..] = words else {
+        return None;
+    };
+    if command.as_str() != "check" {
+        return None;
+    }
+    let plan = plan_word(rest)?;
     Some(Check {
-        inputs,
-        certificate,
+        inputs: Inputs {
+            domain: domain.as_str(),
+            problem: problem.as_str(),
+        },
+        certificate: certificate.as_str(),
+        plan,
     })
+}
+
+/// The plan that the words after the certificate name, if they name one; none where there are too many.
+fn plan_word(words: &[String]) -> Option<Option<&str>>
+    ensures { option_map told_plan result ≡ plan_of (map string_bytes words.now) }
+{
+    match words {
+        [] => Some(None),
+        [word] => Some(Some(word.as_str())),
+        _ => None,
+    }
 }
 
 /// What the words tell `run`; none where they aren't `run DOMAIN PROBLEM PLAN`.
 fn run_words(words: &[String]) -> Option<Run<'_>>
     ensures { option_map told_run result ≡ run_of (map string_bytes words.now) }
 {
-    let (inputs, plan) = names_after("run", words)?;
-    Some(Run { inputs, plan })
+    let [command, domain, problem, plan] = words else {
+        return None;
+    };
+    if command.as_str() != "run" {
+        return None;
+    }
+    Some(Run {
+        inputs: Inputs {
+            domain: domain.as_str(),
+            problem: problem.as_str(),
+        },
+        plan: plan.as_str(),
+    })
 }
 
 /// What the words tell `list`; none where they aren't `list DOMAIN PROBLEM`.
@@ -151,23 +183,6 @@ fn list_words(words: &[String]) -> Option<Inputs<'_>>
     })
 }
 
-/// The pair and the third file that the words name after this word; none where they are other words, or not so many.
-fn names_after<'a>(first: &str, words: &'a [String]) -> Option<(Inputs<'a>, &'a str)>
-    ensures { option_map told_names result ≡ names_after first.now (map string_bytes words.now) }
-{
-    let [command, domain, problem, third] = words else {
-        return None;
-    };
-    if command.as_str() != first {
-        return None;
-    }
-    let inputs = Inputs {
-        domain: domain.as_str(),
-        problem: problem.as_str(),
-    };
-    Some((inputs, third.as_str()))
-}
-
 /// Whether the names that are written differ from each other and from those that are read.
 fn are_apart(domain: &str, problem: &str, plan: &str, certificate: &str) -> bool
     ensures { result ≡ is_apart domain.now problem.now plan.now certificate.now }
@@ -183,7 +198,7 @@ fn are_apart(domain: &str, problem: &str, plan: &str, certificate: &str) -> bool
 fn budget(words: &[String]) -> Option<u32>
     ensures value { result ≡ budget_of (map string_bytes words.now) }
     ensures some_nodes { IfSome result (λ nodes. 1 ≤ nodes) }
-    ensures few_nodes { IfSome result (λ nodes. nodes ≤ MOST_NODES) }
+    ensures few_nodes { IfSome result (λ nodes. nodes ≤ 2 ^ 24) }
 {
     match words {
         [] => Some(DEFAULT_NODES),
@@ -196,7 +211,7 @@ fn budget(words: &[String]) -> Option<u32>
 fn nodes(word: &[u8]) -> Option<u32>
     ensures value { result ≡ nodes_of word.now }
     ensures some_nodes { IfSome result (λ nodes. 1 ≤ nodes) }
-    ensures few_nodes { IfSome result (λ nodes. nodes ≤ MOST_NODES) }
+    ensures few_nodes { IfSome result (λ nodes. nodes ≤ 2 ^ 24) }
 {
     if word.first().is_none_or(|first| *first <= b'0') {
         return None;

@@ -122,7 +122,7 @@ back : (items : List Item) (p : PlanText) (others : List Piece) → IsPlan p →
 back items p others (inl h) e = stamped_back items others p.lines h e
 back items p others (inr h) e = bracket_back items others p.lines h e
 
-reads_plan : ReadsToEnd IsPlan plan_text SamePlan plan
+pub reads_plan : ReadsToEnd IsPlan plan_text SamePlan plan
 reads_plan = record { sound = sound; back = back }
 
 -- ---- at its places

@@ -1,85 +1,105 @@
 -- From what the steps of `check` come to, to what its answer says.
-use Rattle.std.proofs.Common.{◌≡◌, ℕ, ◌≤◌, true≢false, nat_le, List, refl, sym, ◌∙◌, subst, arith}
-use Rattle.std.specs.Prelude.{IsTrue}
-use Rattle.std.proofs.lemmas.Bool.Decides.{nat_tests}
+use Rattle.std.proofs.Common.{◌≡◌, ℕ, inl, inr, List, Option, None, Some, refl, sym, ◌∙◌, subst}
 use Rattle.np_io.specs.Seen.{SeenShelf}
-use Rattle.np_io.specs.Files.{IsHeld}
+use Rattle.np_model.specs.declared.task.Step.{Step}
+use Rattle.np_model.specs.declared.task.TaskParts.{TaskParts}
+use Rattle.np_typing.specs.TaskOf.{task_of}
 use Rattle.np_flat.specs.declared.parts.Parts.{Parts}
-use Rattle.np_flat.specs.Plans.{cost_sum}
-use Rattle.np_cert.specs.declared.certificate.Limit.{Limit}
-use Rattle.np_cert.specs.declared.certificate.Limit.TheVariants.{Number, Absent}
+use Rattle.np_scale.specs.Scaling.{IsFlatTaskOf}
 use Rattle.np_cert.specs.declared.certificate.Certificate.{Certificate}
-use Rattle.np_check.specs.Bounds.{Bounds as BoundsFlat}
-use Rattle.np_check.proofs.ClaimBounds.{claim_bounds}
-use Rattle.np_first_text.specs.declared.syntax.Domain.{Domain}
-use Rattle.np_first_text.specs.declared.syntax.Problem.{Problem}
-use Rattle.np_first_text.specs.FirstForm.{IsFirstForm}
-use Rattle.np_first_text.specs.TaskOf.{task_of}
-use Rattle.np_first.specs.FlatOf.{flat_of}
-use Rattle.np_first.proofs.SameFlatPlans.{flat_bound_is, flat_none_is}
-use Rattle.np_answers.specs.declared.answer.File.TheVariants as file
-use Rattle.np_answers.specs.declared.answer.check.CheckAnswer.{CheckAnswer}
-use Rattle.np_answers.specs.declared.answer.check.CheckAnswer.TheVariants.{Yes, No}
 use Rattle.np_answers.specs.declared.answer.Answer.{Answer}
-use Rattle.np_answers.specs.declared.answer.Answer.TheVariants.{CannotRead, Refused, Checked, OutOfMemory}
-use Rattle.np_answers.specs.Words.{Check}
-use Rattle.np_planner.specs.Shelves.{HoldsPair}
-use Rattle.np_planner.specs.CheckAnswers.{IsTrueClaim, IsTrueOfCertificate}
-use Rattle.np_planner.specs.RightAnswers.{IsCheckAnswer}
-use Rattle.np_planner.specs.CheckSteps.{IsTrueFor, IsJudged}
-use Rattle.np_planner.specs.ReadSteps.{IsNotFetched}
+use Rattle.np_answers.specs.declared.answer.Answer.TheVariants.{Checked, OutOfMemory}
+use Rattle.np_answers.specs.Words.{Check, checking}
+use Rattle.np_commands.specs.Checking.{IsJudgedAlone, IsJudgedBeside}
+use Rattle.np_planner.specs.GivenFiles.{HoldsCertificate, IsWithoutCertificate, HoldsPlan, IsWithoutPlan}
+use Rattle.np_planner.specs.CheckAnswers.{IsWithoutNamed, IsTrueBeside, IsCheckAnswer}
+use Rattle.np_planner.specs.RightAnswers.{IsRightTo}
+use Rattle.np_planner.specs.TaskSteps.{HoldsFlatAs}
+use Rattle.np_planner.specs.GivenSteps.{IsCheckedBeside}
+use Rattle.np_planner.proofs.TaskEnds.{flat_for}
 
--- a test of two numbers that says yes
-at_least : (m n : ℕ) → IsTrue (nat_le m n) → m ≤ n
-at_least m n t = grind (arith, nat_tests)
+module _ (command : Check) (old : SeenShelf) (task : TaskParts) (flat : Parts) (of : HoldsFlatAs command.inputs old task flat) where
+  -- the certificate can't be had
+  uncertified_for : (new : SeenShelf) (answer : Answer) → IsWithoutCertificate command.certificate old new answer → IsRightTo (checking command) old new answer
+  uncertified_for new answer is = inr (inl (flat_for command.inputs old task flat of (λ t f. IsWithoutCertificate command.certificate old new answer) is))
 
--- what bounds every flat plan is true of the task's plans
-true_of : (d : Domain) (p : Problem) → IsFirstForm d p → (claim : Limit) → BoundsFlat (flat_of d p) claim → IsTrueClaim claim (task_of d p)
-true_of d p form (Number n) bounds = flat_bound_is d p form n (λ numbers leads. at_least n (cost_sum (flat_of d p) numbers) (bounds numbers leads))
-true_of d p form Absent bounds = flat_none_is d p form (λ numbers leads. true≢false (sym (bounds numbers leads)))
+  module _ (c : Certificate) (written : HoldsCertificate command.certificate old c) where
+    -- its flat task, by the names of the files
+    named_flat : IsFlatTaskOf (task_of of.held.domain of.held.problem) flat
+    named_flat = subst (λ (t : TaskParts). IsFlatTaskOf t flat) of.held.task_is of.is_flat
 
--- what is true of a pair's flat task is true of the pair
-true_answer : (d : Domain) (p : Problem) → IsFirstForm d p → (c : Certificate) (answer : CheckAnswer) → IsTrueFor (flat_of d p) c answer → IsTrueOfCertificate d p c answer
-true_answer d p form c (Yes claim) (claim_is, valid) = record {
-  claim_is = claim_is;
-  valid = valid;
-  true_claim = subst (λ (l : Limit). IsTrueClaim l (task_of d p)) claim_is (true_of d p form c.claim (claim_bounds (flat_of d p) c valid));
-}
-true_answer d p form c (No fault) verdict = verdict
+    -- the answer to the certificate alone
+    judged_for : command.plan ≡ None → (answer : Answer) → IsJudgedAlone flat c answer → IsCheckAnswer command old old answer
+    judged_for alone (Checked answer) is = (
+      refl,
+      record {
+        domain = of.held.domain;
+        problem = of.held.problem;
+        pair = of.held.pair;
+        flat = flat;
+        is_flat = named_flat;
+        certificate = c;
+        written = written;
+        true_answer = subst (λ (plan : Option (List ℕ)). IsTrueBeside (task_of of.held.domain of.held.problem) flat c plan old answer) (sym alone)
+            (is (task_of of.held.domain of.held.problem) of.held.pair.is_task named_flat);
+      },
+    )
+    judged_for alone OutOfMemory is = refl
+    judged_for alone answer is = absurd is
 
-module _ (command : Check) (old : SeenShelf) (d : Domain) (p : Problem) (pair : HoldsPair command.inputs old d p) where
-  -- an answer to the bytes of the certificate
-  judged_for : (bytes : List ℕ) → IsHeld old.files command.certificate bytes → (answer : Answer) → IsJudged (flat_of d p) bytes answer → IsCheckAnswer command old old answer
-  judged_for bytes held (Refused refusal) is = (refl, record { some_pair = record { domain = d; problem = p; pair = pair }; bytes = bytes; held = held; reason = is })
-  judged_for bytes held (Checked answer) is = (
-    refl,
-    record {
-      domain = d;
-      problem = p;
-      pair = pair;
-      certificate = is.certificate;
-      written = record { bytes = bytes; held = held; spelled = is.spelled };
-      thin = is.thin;
-      true_answer = true_answer d p pair.spelled.first_form is.certificate answer is.true_answer;
-    },
-  )
-  judged_for bytes held OutOfMemory is = refl
-  judged_for bytes held answer is = absurd is
+    module _ (name : List ℕ) (named : command.plan ≡ Some name) (new : SeenShelf) where
+      -- the plan can't be had
+      unplanned : (answer : Answer) → IsWithoutPlan task name old new answer → IsRightTo (checking command) old new answer
+      unplanned answer is =
+          inr (inr (inl (flat_for command.inputs old task flat of (λ t f. IsWithoutNamed command t old new answer)
+          (record { certificate = c; written = written; name = name; named = named; without = is }))))
 
-  -- the answer where they can't be had
-  not_fetched_for : (new : SeenShelf) (answer : Answer) → IsNotFetched file.Certificate command.certificate old new answer → IsCheckAnswer command old new answer
-  not_fetched_for new (CannotRead f) (same, failed) =
-      subst (λ f. IsCheckAnswer command old new (CannotRead f)) (sym same) (record { domain = d; problem = p; pair = pair }, failed)
-  not_fetched_for new OutOfMemory same = same
-  not_fetched_for new answer unread = absurd unread
+      -- the answer to the certificate and the steps
+      beside : new ≡ old → (steps : List Step) → HoldsPlan task name old steps → (answer : Answer) → IsJudgedBeside flat c steps answer → IsCheckAnswer command old new answer
+      beside same steps held (Checked answer) is = (
+        same,
+        record {
+          domain = of.held.domain;
+          problem = of.held.problem;
+          pair = of.held.pair;
+          flat = flat;
+          is_flat = named_flat;
+          certificate = c;
+          written = written;
+          true_answer = subst (λ (plan : Option (List ℕ)). IsTrueBeside (task_of of.held.domain of.held.problem) flat c plan old answer) (sym named)
+              (record {
+                steps = steps;
+                held = subst (λ (t : TaskParts). HoldsPlan t name old steps) of.held.task_is held;
+                of_steps = is (task_of of.held.domain of.held.problem) of.held.pair.is_task named_flat;
+              });
+        },
+      )
+      beside same steps held OutOfMemory is = same
+      beside same steps held answer is = absurd is
 
-pub not_fetched : (command : Check) (old after new : SeenShelf) (d : Domain) (p : Problem) → HoldsPair command.inputs old d p → after ≡ old → (answer : Answer) → IsNotFetched file.Certificate command.certificate after new answer → IsCheckAnswer command old new answer
-not_fetched command old after new d p pair same answer unread =
-    not_fetched_for command old d p pair new answer (subst (λ (s : SeenShelf). IsNotFetched file.Certificate command.certificate s new answer) same unread)
+      checked_for : (answer : Answer) → IsCheckedBeside task flat c name old new answer → IsRightTo (checking command) old new answer
+      checked_for answer (inl without) = unplanned answer without
+      checked_for answer (inr done) = inr (inr (inr (beside done.0 done.1.steps done.1.held answer done.1.of_steps)))
 
-pub judged : (command : Check) (old after new : SeenShelf) (d : Domain) (p : Problem) → HoldsPair command.inputs old d p → after ≡ old → new ≡ after → (bytes : List ℕ) → IsHeld after.files command.certificate bytes
-    → (flat : Parts) → flat ≡ flat_of d p → (answer : Answer) → IsJudged flat bytes answer → IsCheckAnswer command old new answer
-judged command old after new d p pair first second bytes held flat same answer is =
-    subst (λ (s : SeenShelf). IsCheckAnswer command old s answer) (sym (second ∙ first))
-    (judged_for command old d p pair bytes (subst (λ (s : SeenShelf). IsHeld s.files command.certificate bytes) first held) answer
-    (subst (λ (t : Parts). IsJudged t bytes answer) same is))
+pub uncertified : (command : Check) (old after new : SeenShelf) (task : TaskParts) (flat : Parts) → (after ≡ old) × HoldsFlatAs command.inputs old task flat
+    → (answer : Answer) → IsWithoutCertificate command.certificate after new answer → IsRightTo (checking command) old new answer
+uncertified command old after new task flat (same, of) answer is =
+    uncertified_for command old task flat of new answer (subst (λ (s : SeenShelf). IsWithoutCertificate command.certificate s new answer) same is)
+
+pub judged : (command : Check) (old after last : SeenShelf) (task : TaskParts) (flat : Parts) → (after ≡ old) × HoldsFlatAs command.inputs old task flat
+    → (c : Certificate) → (last ≡ after) × HoldsCertificate command.certificate after c → command.plan ≡ None → (answer : Answer) → IsJudgedAlone flat c answer → IsRightTo (checking command) old last answer
+judged command old after last task flat (first, of) c (second, written) alone answer is =
+    inr (inr (inr (subst (λ (s : SeenShelf). IsCheckAnswer command old s answer) (sym (second ∙ first))
+    (judged_for command old task flat of c (subst (λ (s : SeenShelf). HoldsCertificate command.certificate s c) first written) alone answer is))))
+
+pub checked : (command : Check) (old after last new : SeenShelf) (task : TaskParts) (flat : Parts) → (after ≡ old) × HoldsFlatAs command.inputs old task flat
+    → (c : Certificate) → (last ≡ after) × HoldsCertificate command.certificate after c → (name : List ℕ) → command.plan ≡ Some name
+    → (answer : Answer) → IsCheckedBeside task flat c name last new answer → IsRightTo (checking command) old new answer
+checked command old after last new task flat (first, of) c (second, written) name named answer is =
+    checked_for command old task flat of c (subst (λ (s : SeenShelf). HoldsCertificate command.certificate s c) first written) name named new answer
+    (subst (λ (s : SeenShelf). IsCheckedBeside task flat c name s new answer) (second ∙ first) is)
+
+-- the steps of the plan were judged beside the certificate
+pub judged_beside : (task : TaskParts) (flat : Parts) (c : Certificate) (name : List ℕ) (old new : SeenShelf) (steps : List Step) → (new ≡ old) × HoldsPlan task name old steps
+    → (answer : Answer) → IsJudgedBeside flat c steps answer → IsCheckedBeside task flat c name old new answer
+judged_beside task flat c name old new steps (same, held) answer is = inr (same, record { steps = steps; held = held; of_steps = is })

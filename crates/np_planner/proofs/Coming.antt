@@ -1,150 +1,191 @@
--- That `check` says yes to a valid certificate, where nothing fails and memory is there.
-use Rattle.std.proofs.Common.{◌≡◌, ℕ, ◌<◌, ◌≤◌, ◌⊎◌, inl, inr, List, length, Option, Some, refl, sym, ap, ◌∙◌, subst, arith}
-use Rattle.std.proofs.lemmas.Option.{same_Some}
+-- That `check` says yes to a valid certificate, and with a plan whose cost is the claim, where nothing fails and memory is there.
+use Rattle.std.proofs.Common.{◌≡◌, ℕ, pos, ◌⊎◌, inl, inr, List, Option, Some, None, refl, sym, ap, ◌∙◌, subst}
+use Rattle.std.proofs.lemmas.Option.{same_Some, none-some}
 use Rattle.np_io.specs.Seen.{SeenShelf}
-use Rattle.np_io.specs.Files.{Files, IsHeld, IsLonger}
+use Rattle.np_io.specs.Counts.{Rose}
+use Rattle.np_frac.specs.Fractions.{Fraction, whole}
+use Rattle.np_model.specs.declared.task.Step.{Step}
+use Rattle.np_model.specs.declared.task.TaskParts.{TaskParts}
+use Rattle.np_model.specs.Plans.{IsPlan}
+use Rattle.np_model.proofs.Runs.{one_cost}
+use Rattle.np_typing.specs.TaskOf.{task_of}
 use Rattle.np_flat.specs.declared.parts.Parts.{Parts}
+use Rattle.np_plan.specs.Plans.{Spells}
+use Rattle.np_run.specs.declared.answers.RunEnd.{RunEnd}
+use Rattle.np_run.specs.declared.answers.RunEnd.TheVariants as run
+use Rattle.np_run.specs.RunAnswers.{IsAnswer}
 use Rattle.np_cert.specs.declared.certificate.Limit.{Limit}
+use Rattle.np_cert.specs.declared.certificate.Limit.TheVariants.{Number}
 use Rattle.np_cert.specs.declared.certificate.Certificate.{Certificate}
-use Rattle.np_cert.specs.Text.{Spells, IsThin}
 use Rattle.np_cert.specs.Valid.{IsValid}
-use Rattle.np_cert.proofs.ReadingTexts.{one_certificate}
-use Rattle.np_cert.proofs.ValidForms.{valid_thin}
-use Rattle.np_check.specs.Verdicts.{IsVerdict}
+use Rattle.np_check.specs.declared.verdict.Verdict.TheVariants.{BadProof, TwiceEntry, BadEntry, BadClaim}
 use Rattle.np_check.proofs.OneVerdict.{fault_is_no_yes}
-use Rattle.np_first_text.specs.declared.syntax.Domain.{Domain}
-use Rattle.np_first_text.specs.declared.syntax.Problem.{Problem}
-use Rattle.np_first_text.specs.FirstForm.{SpellsPair}
-use Rattle.np_first.specs.FlatOf.{flat_of}
-use Rattle.np_first_text.proofs.ReadingTexts.{one_domain, one_problem}
-use Rattle.np_answers.specs.declared.answer.File.TheVariants as file
-use Rattle.np_answers.specs.declared.answer.refusal.Refusal.{Refusal}
-use Rattle.np_answers.specs.declared.answer.refusal.Refusal.TheVariants.{TooLong, Syntax, CertificateNotBuilt}
-use Rattle.np_answers.specs.declared.answer.check.CheckAnswer.TheVariants.{Yes, No}
+use Rattle.np_answers.specs.declared.answer.check.CheckAnswer.{CheckAnswer}
+use Rattle.np_answers.specs.declared.answer.check.CheckAnswer.TheVariants.{Yes, YesPlan, No}
 use Rattle.np_answers.specs.declared.answer.check.Fault.{Fault}
-use Rattle.np_answers.specs.declared.answer.check.Fault.TheVariants.{ProofFails, Repeats, Unjustified, ClaimAbove}
+use Rattle.np_answers.specs.declared.answer.check.Fault.TheVariants.{ProofFails, Repeats, Unjustified, ClaimAbove, Stuck, NoGoal, OtherCost}
 use Rattle.np_answers.specs.declared.answer.Answer.{Answer}
-use Rattle.np_answers.specs.declared.answer.Answer.TheVariants.{CannotRead, Refused, Checked, OutOfMemory}
-use Rattle.np_planner.specs.declared.inputs.TheConstants.{MOST_BYTES}
+use Rattle.np_answers.specs.declared.answer.Answer.TheVariants.{Checked, OutOfMemory}
 use Rattle.np_answers.specs.Words.{Check, Command, checking}
 use Rattle.np_answers.specs.Texts.{status_of}
-use Rattle.np_planner.specs.Shelves.{AreRead}
-use Rattle.np_planner.specs.CheckAnswers.{IsRightCheck, HoldsValid, verdict_of}
-use Rattle.np_planner.specs.RightAnswers.{HoldsNoPair, IsCertificateReason, IsRight, IsRightTo}
 use Rattle.np_answers.specs.Output.{IsAnsweredBy}
-use Rattle.np_planner.specs.Promises.{Call, Says, IsAnswered, HadNoFault}
-
--- what is under a name that is told
-held_bytes : (files : Option Files) (f : Files) (name bytes there : List ℕ) → files ≡ Some f → f name ≡ Some there → IsHeld files name bytes → bytes ≡ there
-held_bytes files f name bytes there told is held =
-    same_Some bytes there (sym (subst (λ (x : Option Files). IsHeld x name bytes) told held) ∙ is)
-
--- a file that is short isn't too long
-not_longer : (files : Option Files) (f : Files) (name there : List ℕ) (limit : ℕ) → files ≡ Some f → f name ≡ Some there → length there ≤ limit → IsLonger files name limit → ⊥
-not_longer files f name there limit told is short longer =
-    let found : (bytes : List ℕ) × (f name ≡ Some bytes) × (limit < length bytes) = subst (λ (x : Option Files). IsLonger x name limit) told longer in
-    let same : found.0 ≡ there = same_Some found.0 there (sym found.1 ∙ is) in
-    omega (arith, short, subst (λ (b : List ℕ). limit < length b) same found.2)
+use Rattle.np_commands.specs.Checking.{IsCertificateFault, IsTrueOfCertificate, IsTrueOfPlan}
+use Rattle.np_planner.specs.GivenFiles.{HoldsPlan, HoldsStepsFor, IsWithoutPlan}
+use Rattle.np_planner.specs.CheckAnswers.{IsRightCheck, IsTrueBeside, HoldsValid, HoldsOptimal, IsCheckAnswer}
+use Rattle.np_planner.specs.RightAnswers.{IsRight, IsRightTo}
+use Rattle.np_planner.specs.Promises.{Call, Says, IsAnswered, NoneRose, names_in, HadNoFault}
+use Rattle.np_planner.proofs.Unrefused.{one_content, same_task, same_flat, same_certificate, flat_there, certificate_there, plan_there}
+use Rattle.np_planner.proofs.OnePlan.{one_plan}
 
 -- a certificate with a fault isn't valid
-faulty : (task : Parts) (c : Certificate) (fault : Fault) → IsVerdict task c (verdict_of fault) → IsValid task c → ⊥
-faulty task c (ProofFails proof) is valid = fault_is_no_yes task c (verdict_of (ProofFails proof)) is (λ e. cc) (λ e. cc) valid
-faulty task c (Repeats entry) is valid = fault_is_no_yes task c (verdict_of (Repeats entry)) is (λ e. cc) (λ e. cc) valid
-faulty task c (Unjustified entry) is valid = fault_is_no_yes task c (verdict_of (Unjustified entry)) is (λ e. cc) (λ e. cc) valid
-faulty task c ClaimAbove is valid = fault_is_no_yes task c (verdict_of ClaimAbove) is (λ e. cc) (λ e. cc) valid
+faulty : (flat : Parts) (c : Certificate) (fault : Fault) → IsCertificateFault flat c fault → IsValid flat c → ⊥
+faulty flat c (ProofFails proof) is valid = fault_is_no_yes flat c (BadProof proof) is (λ e. cc) (λ e. cc) valid
+faulty flat c (Repeats entry) is valid = fault_is_no_yes flat c (TwiceEntry entry) is (λ e. cc) (λ e. cc) valid
+faulty flat c (Unjustified entry) is valid = fault_is_no_yes flat c (BadEntry entry) is (λ e. cc) (λ e. cc) valid
+faulty flat c ClaimAbove is valid = fault_is_no_yes flat c BadClaim is (λ e. cc) (λ e. cc) valid
+faulty flat c fault is valid = absurd is
+
+-- a plan comes to no other end
+planned : (task : TaskParts) (steps : List Step) (cost : Fraction) (end : RunEnd) → IsPlan task steps cost → IsAnswer task steps end → run.Goal cost ≡ end
+planned task steps cost end plan answer = answer.only (run.Goal cost) plan
+
+goal_is_no_other : (cost : Fraction) → run.Goal cost ≡ run.NoGoal → ⊥
+goal_is_no_other cost e = absurd cc
+
+goal_is_not_stuck : (cost : Fraction) (number : ℕ) → run.Goal cost ≡ run.Stuck number → ⊥
+goal_is_not_stuck cost number e = absurd cc
+
+whole_once : (m n : ℕ) → whole (pos m) ≡ whole (pos n) → m ≡ n
+unfolding whole
+whole_once m n e = let numbers : pos m ≡ pos n = ap (λ (f : Fraction). f.num) e in cc
+
+same_number : (m n : ℕ) → Number m ≡ Number n → m ≡ n
+same_number m n e = cc
 
 module _ (command : Check) (claim : Limit) (shelf : SeenShelf) (valid : HoldsValid command claim shelf) where
   -- what is read is what is told
-  bytes_are : (name bytes there : List ℕ) → valid.files name ≡ Some there → IsHeld shelf.files name bytes → bytes ≡ there
-  bytes_are name bytes there is held = held_bytes shelf.files valid.files name bytes there valid.told is held
+  module _ (answer : CheckAnswer) (right : IsRightCheck command answer shelf) where
+    flat_same : right.flat ≡ valid.flat
+    flat_same = same_flat shelf valid.files valid.told command.inputs valid.domain valid.problem valid.pair valid.flat valid.is_flat right.domain right.problem right.pair.both right.flat right.is_flat
 
-  too_long : (name there : List ℕ) → valid.files name ≡ Some there → length there ≤ MOST_BYTES → IsLonger shelf.files name MOST_BYTES → ⊥
-  too_long name there is short longer = not_longer shelf.files valid.files name there MOST_BYTES valid.told is short longer
+    task_same : task_of right.domain right.problem ≡ task_of valid.domain valid.problem
+    task_same = same_task shelf valid.files valid.told command.inputs valid.domain valid.problem valid.pair right.domain right.problem right.pair.both
 
-  module _ (domain_bytes problem_bytes : List ℕ) (read : AreRead command.inputs shelf domain_bytes problem_bytes) where
-    domain_same : domain_bytes ≡ valid.domain_bytes
-    domain_same = bytes_are command.inputs.domain domain_bytes valid.domain_bytes valid.domain_is read.domain_read.held
+    certificate_same : right.certificate ≡ valid.certificate
+    certificate_same = same_certificate shelf valid.files valid.told command.certificate valid.certificate valid.written right.certificate right.written
 
-    problem_same : problem_bytes ≡ valid.problem_bytes
-    problem_same = bytes_are command.inputs.problem problem_bytes valid.problem_bytes valid.problem_is read.problem_read.held
+    -- so the answer is true of it
+    true_here : IsTrueBeside (task_of valid.domain valid.problem) valid.flat valid.certificate command.plan shelf answer
+    true_here =
+        subst (λ (t : TaskParts). IsTrueBeside t valid.flat valid.certificate command.plan shelf answer) task_same
+        (subst (λ (t : Parts). IsTrueBeside (task_of right.domain right.problem) t valid.certificate command.plan shelf answer) flat_same
+        (subst (λ (c : Certificate). IsTrueBeside (task_of right.domain right.problem) right.flat c command.plan shelf answer) certificate_same right.true_answer))
 
-    -- the pair of the files is the one that they spell
-    same_flat : (d : Domain) (p : Problem) → SpellsPair domain_bytes problem_bytes d p → flat_of d p ≡ flat_of valid.domain valid.problem
-    same_flat d p spelled =
-        let spelled_there : SpellsPair valid.domain_bytes valid.problem_bytes d p =
-        subst (λ (x : List ℕ). SpellsPair x valid.problem_bytes d p) domain_same (subst (λ (y : List ℕ). SpellsPair domain_bytes y d p) problem_same spelled) in
-        let domain = one_domain valid.domain_bytes d valid.domain spelled_there.domain valid.spelled.domain in
-        let problem = one_problem valid.problem_bytes p valid.problem spelled_there.problem valid.spelled.problem in
-        λ i. flat_of (domain i) (problem i)
+  -- the answer to the certificate alone is yes
+  alone : (answer : CheckAnswer) → IsTrueOfCertificate (task_of valid.domain valid.problem) valid.flat valid.certificate answer → answer ≡ Yes claim
+  alone (Yes other) is = ap Yes (sym is.claim_is ∙ valid.claim_is)
+  alone (No fault) is = absurd (faulty valid.flat valid.certificate fault is valid.valid)
+  alone answer is = absurd is
 
-    there : SpellsPair domain_bytes problem_bytes valid.domain valid.problem
-    there =
-        subst (λ (x : List ℕ). SpellsPair x problem_bytes valid.domain valid.problem) (sym domain_same)
-        (subst (λ (y : List ℕ). SpellsPair valid.domain_bytes y valid.domain valid.problem) (sym problem_same) valid.spelled)
+module _ (command : Check) (cost : ℕ) (shelf : SeenShelf) (holds : HoldsOptimal command cost shelf) where
+  -- beside the plan it is yes too
+  module _ (steps : List Step) (is_plan : IsPlan (task_of holds.valid.domain holds.valid.problem) steps (whole (pos cost))) where
+    beside : (answer : CheckAnswer) → IsTrueOfPlan (task_of holds.valid.domain holds.valid.problem) holds.valid.flat holds.valid.certificate steps answer → answer ≡ YesPlan cost
+    beside (YesPlan other) is = ap YesPlan (same_number other cost (sym is.claim.claim_is ∙ holds.valid.claim_is))
+    beside (No (Stuck number)) is = absurd (goal_is_not_stuck (whole (pos cost)) number (planned _ steps (whole (pos cost)) (run.Stuck number) is_plan is.ends))
+    beside (No NoGoal) is = absurd (goal_is_no_other (whole (pos cost)) (planned _ steps (whole (pos cost)) run.NoGoal is_plan is.ends))
+    beside (No (OtherCost other number)) is =
+        absurd (is.other (whole_once other cost (one_cost _ steps (whole (pos other)) (whole (pos cost)) is.is_plan is_plan)
+        ∙ sym (same_number number cost (sym is.claim_is ∙ holds.valid.claim_is))))
+    beside (No (ProofFails proof)) is = absurd (faulty holds.valid.flat holds.valid.certificate (ProofFails proof) is holds.valid.valid)
+    beside (No (Repeats entry)) is = absurd (faulty holds.valid.flat holds.valid.certificate (Repeats entry) is holds.valid.valid)
+    beside (No (Unjustified entry)) is = absurd (faulty holds.valid.flat holds.valid.certificate (Unjustified entry) is holds.valid.valid)
+    beside (No ClaimAbove) is = absurd (faulty holds.valid.flat holds.valid.certificate ClaimAbove is holds.valid.valid)
+    beside (Yes claim) is = absurd is
 
-  -- there is a pair
-  pair_there : (refusal : Refusal) → HoldsNoPair command.inputs shelf refusal → ⊥
-  pair_there refusal none_there = none_there.none valid.domain valid.problem (there none_there.domain_bytes none_there.problem_bytes none_there.read)
+  -- the steps that are read are those of the plan
+  read_beside : (answer : CheckAnswer)
+      → HoldsStepsFor (task_of holds.valid.domain holds.valid.problem) holds.plan.name shelf (λ steps. IsTrueOfPlan (task_of holds.valid.domain holds.valid.problem) holds.valid.flat holds.valid.certificate steps answer)
+      → answer ≡ YesPlan cost
+  read_beside answer read =
+      let task = task_of holds.valid.domain holds.valid.problem in
+      let content : read.held.bytes ≡ holds.plan.held.bytes = one_content shelf holds.valid.files holds.valid.told holds.plan.name read.held.bytes holds.plan.held.bytes read.held.held holds.plan.held.held in
+      let same : holds.plan.steps ≡ read.steps =
+      one_plan task holds.valid.pair.is_task read.held.bytes read.steps holds.plan.steps read.held.of_bytes.spelled
+      (subst (λ (b : List ℕ). Spells task b holds.plan.steps) (sym content) holds.plan.held.of_bytes.spelled) in
+      beside read.steps (subst (λ (ss : List Step). IsPlan task ss (whole (pos cost))) same holds.plan.is_plan) answer read.of_steps
 
-  -- the bytes of the certificate spell it
-  certificate_there : (bytes : List ℕ) → IsHeld shelf.files command.certificate bytes → Spells bytes valid.certificate
-  certificate_there bytes held = subst (λ (x : List ℕ). Spells x valid.certificate) (sym (bytes_are command.certificate bytes valid.certificate_bytes valid.certificate_is held)) valid.certificate_spelled
+module _ (call : Call) (command : Check) (expected : CheckAnswer) where
+  -- a right answer that isn't that memory ran out is this yes
+  abbrev IsYesOrMemory : Answer → Type 0
+  IsYesOrMemory answer = (answer ≡ Checked expected) ⊎ (status_of answer ≡ 7)
 
-  same_certificate : (bytes : List ℕ) → IsHeld shelf.files command.certificate bytes → (c : Certificate) → Spells bytes c → c ≡ valid.certificate
-  same_certificate bytes held c spelled = one_certificate bytes c valid.certificate spelled (certificate_there bytes held)
-
-  -- and nothing in them is a reason to refuse it
-  not_refused : (bytes : List ℕ) → IsHeld shelf.files command.certificate bytes → (refusal : Refusal) → IsCertificateReason bytes refusal → ⊥
-  not_refused bytes held (Syntax file.Certificate place) reason = reason.none valid.certificate (certificate_there bytes held)
-  not_refused bytes held CertificateNotBuilt reason =
-      reason.other_form (subst IsThin (sym (same_certificate bytes held reason.certificate reason.spelled)) (valid_thin (flat_of valid.domain valid.problem) valid.certificate valid.valid))
-  not_refused bytes held refusal reason = absurd reason
-
-  -- and it has no fault
-  no_fault : (fault : Fault) → IsRightCheck command (No fault) shelf → ⊥
-  no_fault fault right =
-      faulty (flat_of valid.domain valid.problem) valid.certificate fault
-      (subst (λ (c : Certificate). IsVerdict (flat_of valid.domain valid.problem) c (verdict_of fault)) (same_certificate right.written.bytes right.written.held right.certificate right.written.spelled)
-      (subst (λ (t : Parts). IsVerdict t right.certificate (verdict_of fault)) (same_flat right.pair.domain_bytes right.pair.problem_bytes right.pair.read right.domain right.problem right.pair.spelled) right.true_answer))
-      valid.valid
-
-  -- a yes is to the certificate's claim
-  same_claim : (other : Limit) → IsRightCheck command (Yes other) shelf → other ≡ claim
-  same_claim other right =
-      sym right.true_answer.claim_is ∙ ap (λ (c : Certificate). c.claim) (same_certificate right.written.bytes right.written.held right.certificate right.written.spelled) ∙ valid.claim_is
-
-module _ (call : Call) (command : Check) (claim : Limit) (valid : HoldsValid command claim call.before) (healthy : HadNoFault call command) where
-  -- a right answer is yes, or there is no memory
-  yes_or_memory : (answer : Answer) → IsRightTo (checking command) call.before call.after answer → (answer ≡ Checked (Yes claim)) ⊎ (status_of answer ≡ 7)
-  yes_or_memory (CannotRead file.Domain) (inl failed) = absurd (healthy.domain failed.rose)
-  yes_or_memory (CannotRead file.Problem) (inl failed) = absurd (healthy.problem failed.1.rose)
-  yes_or_memory (CannotRead file.Certificate) (inr failed) = absurd (healthy.certificate failed.1.rose)
-  yes_or_memory (Refused (TooLong file.Domain)) (inl is) = absurd (too_long command claim call.before valid command.inputs.domain valid.domain_bytes valid.domain_is valid.domain_short is.1)
-  yes_or_memory (Refused (TooLong file.Problem)) (inl is) = absurd (too_long command claim call.before valid command.inputs.problem valid.problem_bytes valid.problem_is valid.problem_short is.1.1)
-  yes_or_memory (Checked (Yes other)) (inr is) = inl (ap (λ (l : Limit). Checked (Yes l)) (same_claim command claim call.before valid other is.1))
-  yes_or_memory (Checked (No fault)) (inr is) = absurd (no_fault command claim call.before valid fault is.1)
-  yes_or_memory OutOfMemory right = inr refl
-  yes_or_memory (Refused (TooLong f)) (inl is) = absurd is.1
-  yes_or_memory (Refused refusal) (inl is) = absurd (pair_there command claim call.before valid refusal is.1)
-  yes_or_memory (Refused refusal) (inr is) = absurd (not_refused command claim call.before valid is.1.bytes is.1.held refusal is.1.reason)
-  yes_or_memory answer (inl without) = absurd without
-  yes_or_memory answer (inr right) = absurd right
-
-  said_so : (status : ℕ) (answer : Answer) → (answer ≡ Checked (Yes claim)) ⊎ (status_of answer ≡ 7) → status ≡ status_of answer → Says call answer → ((status ≡ 0) × Says call (Checked (Yes claim))) ⊎ (status ≡ 7)
+  said_so : (status : ℕ) (answer : Answer) → IsYesOrMemory answer → status ≡ status_of answer → Says call answer → ((status ≡ status_of (Checked expected)) × Says call (Checked expected)) ⊎ (status ≡ 7)
   said_so status answer (inl e) own says = inl (own ∙ ap status_of e, subst (λ (a : Answer). Says call a) e says)
   said_so status answer (inr e) own says = inr (own ∙ e)
 
-  given : (status : ℕ) (answer : Answer) → IsRightTo (checking command) call.before call.after answer → IsAnsweredBy answer call.out_before call.out_after status → ((status ≡ 0) × Says call (Checked (Yes claim))) ⊎ (status ≡ 7)
-  given status answer right (inl (inl p)) = said_so status answer (yes_or_memory answer right) p.0 p.1
-  given status answer right (inl (inr (inl c))) = absurd (healthy.sink c.1.rose.rose)
-  given status answer right (inl (inr (inr u))) = inr u.0
-  given status answer right (inr (inl p)) = inr p.0
-  given status answer right (inr (inr (inl c))) = absurd (healthy.sink c.1.rose.rose)
-  given status answer right (inr (inr (inr u))) = inr u.0
+  given : HadNoFault call (checking command) → (status : ℕ) (answer : Answer) → IsYesOrMemory answer → IsAnsweredBy answer call.out_before call.out_after status → ((status ≡ status_of (Checked expected)) × Says call (Checked expected)) ⊎ (status ≡ 7)
+  given healthy status answer right (inl (inl p)) = said_so status answer right p.0 p.1
+  given healthy status answer right (inl (inr (inl c))) = absurd (healthy.sink c.1.rose.rose)
+  given healthy status answer right (inl (inr (inr u))) = inr u.0
+  given healthy status answer right (inr (inl p)) = inr p.0
+  given healthy status answer right (inr (inr (inl c))) = absurd (healthy.sink c.1.rose.rose)
+  given healthy status answer right (inr (inr (inr u))) = inr u.0
+
+module _ (call : Call) (command : Check) (claim : Limit) (valid : HoldsValid command claim call.before) (healthy : HadNoFault call (checking command)) where
+  -- all that comes before the work is there
+  no_refusal : (answer : Answer) → IsRightTo (checking command) call.before call.after answer
+      → ((name : List ℕ) → command.plan ≡ Some name → (task : TaskParts) → task ≡ task_of valid.domain valid.problem → IsWithoutPlan task name call.before call.after answer → status_of answer ≡ 7)
+      → (status_of answer ≡ 7) ⊎ IsCheckAnswer command call.before call.after answer
+  no_refusal answer (inl without) plan =
+      inl (flat_there call.before valid.files valid.told command.inputs valid.domain valid.problem valid.pair call.after healthy.reads.0 healthy.reads.1.0 valid.flat valid.is_flat answer without)
+  no_refusal answer (inr (inl without)) plan =
+      inl (certificate_there call.before valid.files valid.told command.certificate valid.certificate valid.written call.after healthy.reads.1.1.0 answer without.of_flat)
+  no_refusal answer (inr (inr (inl without))) plan =
+      inl (plan without.of_flat.name without.of_flat.named _ (same_task call.before valid.files valid.told command.inputs valid.domain valid.problem valid.pair without.domain without.problem without.pair.both) without.of_flat.without)
+  no_refusal answer (inr (inr (inr is))) plan = inr is
+
+  -- an answer to all that the words name
+  judged : (expected : CheckAnswer) → ((answer : CheckAnswer) → IsRightCheck command answer call.before → answer ≡ expected) → (answer : Answer) → IsCheckAnswer command call.before call.after answer → (answer ≡ Checked expected) ⊎ (status_of answer ≡ 7)
+  judged expected must (Checked answer) is = inl (ap Checked (must answer is.1))
+  judged expected must OutOfMemory is = inr refl
+  judged expected must answer is = absurd is
+
+  chosen : (expected : CheckAnswer) → ((answer : CheckAnswer) → IsRightCheck command answer call.before → answer ≡ expected) → (answer : Answer)
+      → (status_of answer ≡ 7) ⊎ IsCheckAnswer command call.before call.after answer → (answer ≡ Checked expected) ⊎ (status_of answer ≡ 7)
+  chosen expected must answer (inl memory) = inr memory
+  chosen expected must answer (inr is) = judged expected must answer is
 
 -- `check` on a valid certificate says yes, or memory runs out
-pub comes : (call : Call) (status : ℕ) → IsAnswered call status → (command : Check) (claim : Limit) → call.command ≡ Some (checking command) → HoldsValid command claim call.before → HadNoFault call command
+pub comes : (call : Call) (status : ℕ) → IsAnswered call status → (command : Check) (claim : Limit) → call.command ≡ Some (checking command) → command.plan ≡ None → HoldsValid command claim call.before → HadNoFault call (checking command)
     → ((status ≡ 0) × Says call (Checked (Yes claim))) ⊎ (status ≡ 7)
-comes call status answered command claim words_are valid healthy =
+comes call status answered command claim words_are none valid healthy =
     let right = subst (λ (o : Option Command). IsRight o call.before call.after answered.answer) words_are answered.right in
-    given call command claim valid healthy status answered.answer right answered.given
+    given call command (Yes claim) healthy status answered.answer
+    (chosen call command claim valid healthy (Yes claim)
+    (λ answer is. alone command claim call.before valid answer
+    (subst (λ (plan : Option (List ℕ)). IsTrueBeside (task_of valid.domain valid.problem) valid.flat valid.certificate plan call.before answer) none (true_here command claim call.before valid answer is)))
+    answered.answer
+    (no_refusal call command claim valid healthy answered.answer right (λ name named task same without. absurd (none-some name (sym none ∙ named)))))
+    answered.given
+
+-- and with a plan whose cost is the claim
+pub plan_comes : (call : Call) (status : ℕ) → IsAnswered call status → (command : Check) (cost : ℕ) → call.command ≡ Some (checking command) → HoldsOptimal command cost call.before → HadNoFault call (checking command)
+    → ((status ≡ 0) × Says call (Checked (YesPlan cost))) ⊎ (status ≡ 7)
+plan_comes call status answered command cost words_are holds healthy =
+    let right = subst (λ (o : Option Command). IsRight o call.before call.after answered.answer) words_are answered.right in
+    let valid = holds.valid in
+    let plan = holds.plan in
+    let reads = subst (λ (o : Option (List ℕ)). NoneRose call.before.read_faults call.after.read_faults (names_in o)) plan.named healthy.reads.1.1.1 in
+    given call command (YesPlan cost) healthy status answered.answer
+    (chosen call command (Number cost) valid healthy (YesPlan cost)
+    (λ answer is. read_beside command cost call.before holds answer
+    (subst (λ (o : Option (List ℕ)). IsTrueBeside (task_of valid.domain valid.problem) valid.flat valid.certificate o call.before answer) plan.named (true_here command (Number cost) call.before valid answer is)))
+    answered.answer
+    (no_refusal call command (Number cost) valid healthy answered.answer right
+    (λ name named task same without.
+    let one : name ≡ plan.name = same_Some name plan.name (sym named ∙ plan.named) in
+    plan_there call.before valid.files valid.told task name plan.steps
+    (subst (λ (n : List ℕ). HoldsPlan task n call.before plan.steps) (sym one) (subst (λ (t : TaskParts). HoldsPlan t plan.name call.before plan.steps) (sym same) plan.held))
+    call.after (subst (λ (n : List ℕ). Rose (call.before.read_faults n) (call.after.read_faults n) → ⊥) (sym one) reads.0) answered.answer without)))
+    answered.given

@@ -1,11 +1,13 @@
 pub mod CheckEnds
 pub mod Checkable
 pub mod Coming
-pub mod Limits
+pub mod Complete
+pub mod GivenEnds
 pub mod ListEnds
+pub mod OnePlan
 pub mod Promises
 pub mod RunEnds
 pub mod Shelves
 pub mod SolveEnds
 pub mod TaskEnds
-pub mod Works
+pub mod Unrefused

@@ -2,21 +2,27 @@
 use Rattle.std.proofs.Common.{◌≡◌, ℕ, inl, inr, List, Option, Some, None, refl, sym, subst}
 use Rattle.np_io.specs.Seen.{SeenShelf, SeenSink}
 use Rattle.np_run.specs.declared.answers.RunEnd.TheVariants.{Goal, NoGoal, Stuck, NoCost}
+use Rattle.np_model.specs.declared.task.TaskParts.{TaskParts}
+use Rattle.np_typing.specs.TaskOf.{task_of}
+use Rattle.np_flat.specs.declared.parts.Parts.{Parts}
+use Rattle.np_cert.specs.declared.certificate.Limit.{Limit}
+use Rattle.np_cert.specs.declared.certificate.Certificate.{Certificate}
 use Rattle.np_answers.specs.declared.answer.solve.SolveAnswer.{SolveAnswer}
 use Rattle.np_answers.specs.declared.answer.solve.SolveAnswer.TheVariants.{Optimal, Unsolvable, Spent}
-use Rattle.np_answers.specs.declared.answer.check.CheckAnswer.TheVariants.{Yes, No}
+use Rattle.np_answers.specs.declared.answer.check.CheckAnswer.TheVariants.{Yes, YesPlan, No}
 use Rattle.np_answers.specs.declared.answer.Answer.{Answer}
 use Rattle.np_answers.specs.declared.answer.Answer.TheVariants.{Usage, CannotRead, Refused, Solved, Checked, Ran, Listed, CannotWrite, OutOfMemory}
 use Rattle.np_answers.specs.Words.{Inputs, Solve, Check, Run, Command, solving, checking, running, listing}
 use Rattle.np_answers.specs.Texts.{status_of}
 use Rattle.np_planner.specs.SolveAnswers.{IsRightSolve}
+use Rattle.np_planner.specs.CheckAnswers.{IsTrueBeside}
 use Rattle.np_planner.specs.RightAnswers.{IsRight, IsRightTo}
 use Rattle.np_answers.specs.Output.{IsAnsweredBy}
-use Rattle.np_planner.specs.Promises.{Call, call_of, Says, IsAnswered, IsTold, IsSolveTold, IsOptimal, IsYes, HasNoPlan, IsBudgetSpent, WhenSolving, IsPushCut, IsOutOfMemory, Status, status_named, Promise, KeepsPromise, KeepsItsWord}
+use Rattle.np_planner.specs.Promises.{Call, call_of, Says, IsAnswered, IsTold, IsSolveTold, IsOptimal, HasNoPlan, IsBudgetSpent, WhenSolving, IsPushCut, IsOutOfMemory, Status, status_named, Promise, KeepsPromise, KeepsItsWord, IsCheckTold, IsYesBeside}
 use Rattle.np_planner.specs.Promises as kind
 use Rattle.np_answers.proofs.Apart.{AreApart, solving_apart}
-use Rattle.np_planner.proofs.Checkable.{checkable}
-use Rattle.np_planner.proofs.Coming.{comes}
+use Rattle.np_planner.proofs.Checkable.{checkable, plan_checkable}
+use Rattle.np_planner.proofs.Coming.{comes, plan_comes}
 
 -- a right answer to this command was said whole
 abbrev Kept : Call → Command → Answer → Type 0
@@ -37,7 +43,7 @@ module _ (call : Call) where
     solved_by answer says right = record { says = says; right = right; checkable = checkable command names answer call.before call.after right }
 
     own : (answer : SolveAnswer) → Says call (Solved answer) → IsRightSolve command answer call.before call.after → Kept call (solving command) (Solved answer)
-    own (Optimal cost) says right = (cost, solved_by (Optimal cost) says right)
+    own (Optimal cost) says right = record { cost = cost; told = solved_by (Optimal cost) says right; plan_checkable = plan_checkable command names cost call.before call.after right }
     own Unsolvable says right = solved_by Unsolvable says right
     own (Spent nodes bound) says right = (bound, subst (λ (n : ℕ). IsSolveTold call command (Spent n bound)) right.true_answer.whole_budget (solved_by (Spent nodes bound) says right))
 
@@ -47,32 +53,52 @@ module _ (call : Call) where
     solved (CannotWrite f) says right = inl (f, told (CannotWrite f) says (solving command) right)
     solved OutOfMemory says right = forgot (solving command) words_are says right
     solved (Solved answer) says (inr right) = own answer says right
-    solved answer says (inl without) = absurd without
+    solved answer says (inl (inl (inl without))) = absurd without
+    solved answer says (inl (inl (inr (inl without)))) = absurd without.1
+    solved answer says (inl (inl (inr (inr without)))) = absurd without
+    solved answer says (inl (inr without)) = absurd without.1.of_task
     solved answer says (inr right) = absurd right
 
   module _ (command : Check) (words_are : call.command ≡ Some (checking command)) where
+    -- a yes of either form comes only where the words name no plan, or name one
+    module _ (task : TaskParts) (flat : Parts) (c : Certificate) where
+      yes_alone : (claim : Limit) → IsCheckTold call command (Yes claim) → (plan : Option (List ℕ)) → IsTrueBeside task flat c plan call.before (Yes claim) → IsYesBeside plan call command
+      yes_alone claim said None is = (claim, said)
+      yes_alone claim said (Some name) is = absurd is.of_steps
+
+      yes_beside : (cost : ℕ) → IsCheckTold call command (YesPlan cost) → (plan : Option (List ℕ)) → IsTrueBeside task flat c plan call.before (YesPlan cost) → IsYesBeside plan call command
+      yes_beside cost said None is = absurd is
+      yes_beside cost said (Some name) is = (cost, said)
+
     checked : (answer : Answer) → Says call answer → IsRightTo (checking command) call.before call.after answer → Kept call (checking command) answer
     checked (CannotRead f) says right = (f, told (CannotRead f) says (checking command) right)
     checked (Refused refusal) says right = (refusal, told (Refused refusal) says (checking command) right)
     checked OutOfMemory says right = forgot (checking command) words_are says right
-    checked (Checked (Yes claim)) says (inr right) = (claim, record { says = says; right = right.1; untouched = right.0 })
-    checked (Checked (No fault)) says (inr right) = (fault, record { says = says; right = right.1; untouched = right.0 })
-    checked answer says (inl without) = absurd without
-    checked answer says (inr right) = absurd right
+    checked (Checked (Yes claim)) says (inr (inr (inr right))) = yes_alone (task_of right.1.domain right.1.problem) right.1.flat right.1.certificate claim (record { says = says; right = right.1; untouched = right.0 }) command.plan right.1.true_answer
+    checked (Checked (YesPlan cost)) says (inr (inr (inr right))) = yes_beside (task_of right.1.domain right.1.problem) right.1.flat right.1.certificate cost (record { says = says; right = right.1; untouched = right.0 }) command.plan right.1.true_answer
+    checked (Checked (No fault)) says (inr (inr (inr right))) = (fault, record { says = says; right = right.1; untouched = right.0 })
+    checked answer says (inl (inl (inl without))) = absurd without
+    checked answer says (inl (inl (inr (inl without)))) = absurd without.1
+    checked answer says (inl (inl (inr (inr without)))) = absurd without
+    checked answer says (inl (inr without)) = absurd without.1.of_task
+    checked answer says (inr (inl without)) = absurd without.of_flat
+    checked answer says (inr (inr (inl without))) = absurd without.of_flat.without
+    checked answer says (inr (inr (inr right))) = absurd right
 
   module _ (command : Run) (words_are : call.command ≡ Some (running command)) where
     ran : (answer : Answer) → Says call answer → IsRightTo (running command) call.before call.after answer → Kept call (running command) answer
     ran (CannotRead f) says right = (f, told (CannotRead f) says (running command) right)
     ran (Refused refusal) says right = (refusal, told (Refused refusal) says (running command) right)
     ran OutOfMemory says right = forgot (running command) words_are says right
-    ran (Ran (Goal cost)) says (inr right) = (cost, record { says = says; right = right.1; untouched = right.0 })
-    ran (Ran NoGoal) says (inr right) = record { end = NoGoal; other = tt; told = record { says = says; right = right.1; untouched = right.0 } }
-    ran (Ran (Stuck n)) says (inr right) = record { end = Stuck n; other = tt; told = record { says = says; right = right.1; untouched = right.0 } }
-    ran (Ran (NoCost n)) says (inr right) = record { end = NoCost n; other = tt; told = record { says = says; right = right.1; untouched = right.0 } }
+    ran (Ran (Goal cost)) says (inr (inr right)) = (cost, record { says = says; right = right.1; untouched = right.0 })
+    ran (Ran NoGoal) says (inr (inr right)) = record { end = NoGoal; other = tt; told = record { says = says; right = right.1; untouched = right.0 } }
+    ran (Ran (Stuck n)) says (inr (inr right)) = record { end = Stuck n; other = tt; told = record { says = says; right = right.1; untouched = right.0 } }
+    ran (Ran (NoCost n)) says (inr (inr right)) = record { end = NoCost n; other = tt; told = record { says = says; right = right.1; untouched = right.0 } }
     ran answer says (inl (inl without)) = absurd without
     ran answer says (inl (inr (inl without))) = absurd without.1
     ran answer says (inl (inr (inr without))) = absurd without
-    ran answer says (inr right) = absurd right
+    ran answer says (inr (inl without)) = absurd without.of_task
+    ran answer says (inr (inr right)) = absurd right.1.of_task.of_steps
 
   module _ (inputs : Inputs) (words_are : call.command ≡ Some (listing inputs)) where
     listed : (answer : Answer) → Says call answer → IsRightTo (listing inputs) call.before call.after answer → Kept call (listing inputs) answer
@@ -80,10 +106,11 @@ module _ (call : Call) where
     listed (Refused refusal) says right = (refusal, told (Refused refusal) says (listing inputs) right)
     listed OutOfMemory says right = forgot (listing inputs) words_are says right
     listed (Listed text) says (inr right) = record { text = text; says = says; right = right.1; untouched = right.0 }
-    listed answer says (inl (inl without)) = absurd without
-    listed answer says (inl (inr (inl without))) = absurd without.1
-    listed answer says (inl (inr (inr without))) = absurd without
-    listed answer says (inr right) = absurd right
+    listed answer says (inl (inl (inl without))) = absurd without
+    listed answer says (inl (inl (inr (inl without)))) = absurd without.1
+    listed answer says (inl (inl (inr (inr without)))) = absurd without
+    listed answer says (inl (inr without)) = absurd without.1.of_task
+    listed answer says (inr right) = absurd right.1.of_flat
 
   -- a right answer was said whole
   whole : (answer : Answer) → Says call answer → (o : Option Command) → ((command : Solve) → o ≡ Some (solving command) → AreApart command) → call.command ≡ o → IsRight o call.before call.after answer
@@ -148,6 +175,7 @@ module _ (call : Call) where
       spent = λ e. budget_spent call.command refl (at_status 11 e);
       yes = λ command words_are e. subst (λ (o : Option Command). Promise o kind.done call) words_are (at_status 0 e);
       yes_comes = comes call status is;
+      plan_yes_comes = plan_comes call status is;
       runs = λ command words_are e. subst (λ (o : Option Command). Promise o kind.done call) words_are (at_status 0 e);
       runs_not = λ command words_are e. subst (λ (o : Option Command). Promise o kind.denied call) words_are (at_status 6 e);
       lists = λ inputs words_are e. subst (λ (o : Option Command). Promise o kind.done call) words_are (at_status 0 e);

@@ -5,21 +5,26 @@ use Rattle.np_io.specs.Seen.{SeenShelf}
 use Rattle.np_io.specs.Files.{Files, Changes, HasPut, HasPutPrefix}
 use Rattle.np_io.specs.Counts.{Rose, OnlyAt}
 use Rattle.np_cert.specs.declared.certificate.Limit.TheVariants.{Number}
-use Rattle.np_first.specs.Certified.{IsCertified}
-use Rattle.np_first_text.specs.declared.syntax.Domain.{Domain}
-use Rattle.np_first_text.specs.declared.syntax.Problem.{Problem}
-use Rattle.np_first.specs.FlatOf.{flat_of}
+use Rattle.np_model.specs.declared.task.TaskParts.{TaskParts}
+use Rattle.np_syntax.specs.declared.domain.Domain.{Domain}
+use Rattle.np_problem.specs.declared.problem.Problem.{Problem}
+use Rattle.np_typing.specs.TaskOf.{task_of}
+use Rattle.np_flat.specs.declared.parts.Parts.{Parts}
+use Rattle.np_scale.specs.Scaling.{IsFlatTaskOf}
+use Rattle.np_evidence.specs.Certified.{IsCertified}
 use Rattle.np_answers.specs.declared.answer.File.TheVariants as file
 use Rattle.np_answers.specs.declared.answer.solve.SolveAnswer.{SolveAnswer}
 use Rattle.np_answers.specs.declared.answer.solve.SolveAnswer.TheVariants.{Optimal}
 use Rattle.np_answers.specs.declared.answer.Answer.{Answer}
 use Rattle.np_answers.specs.declared.answer.Answer.TheVariants.{Solved, CannotWrite, OutOfMemory}
-use Rattle.np_planner.specs.declared.solve.Work.{Work}
+use Rattle.np_commands.specs.declared.solve.Work.{Work}
+use Rattle.np_commands.specs.Solving.{claim_of, IsTrueOfTask, IsWorkOn}
 use Rattle.np_answers.specs.Words.{Solve}
-use Rattle.np_planner.specs.Shelves.{HoldsPair, IsFaultless, WriteFailed, HasPutBoth, HasPutFirst}
-use Rattle.np_planner.specs.SolveAnswers.{claim_of, IsTrueOfPair, HasPutFor, IsRightSolve, OnlyCertified}
-use Rattle.np_planner.specs.RightAnswers.{IsSolveAnswer}
-use Rattle.np_planner.specs.SolveSteps.{IsWorkOn, WasPut, IsNotPut, Concludes, Finishes}
+use Rattle.np_planner.specs.Shelves.{IsFaultless, WriteFailed, HasPutBoth, HasPutFirst}
+use Rattle.np_planner.specs.TaskFiles.{HoldsTask}
+use Rattle.np_planner.specs.SolveAnswers.{HasPutFor, IsRightSolve, OnlyCertified, IsSolveAnswer}
+use Rattle.np_planner.specs.TaskSteps.{HoldsFlatAs}
+use Rattle.np_planner.specs.SolveSteps.{WasPut, IsNotPut, Concludes, Finishes}
 
 -- two changes, one after the other
 both_change : (a b c : Option Files) (P Q R : Files → Files → Type 0) → ((x y z : Files) → P x y → Q y z → R x z) → Changes a b P → Changes b c Q → Changes a c R
@@ -59,29 +64,31 @@ module _ (command : Solve) (apart : bytes_eq command.plan command.certificate �
     others = λ other c p. second.others other p ∙ first.others other c;
   }
 
-module _ (command : Solve) (apart : bytes_eq command.plan command.certificate ≡ false) (old : SeenShelf) (d : Domain) (p : Problem) (pair : HoldsPair command.inputs old d p) where
+module _ (command : Solve) (apart : bytes_eq command.plan command.certificate ≡ false) (old : SeenShelf) (d : Domain) (p : Problem) (pair : HoldsTask command.inputs old d p) (flat : Parts) (is_flat : IsFlatTaskOf (task_of d p) flat) where
   -- a certificate that could not be put
-  not_certified : (work : Work) → IsWorkOn d p command.nodes work → (new : SeenShelf) (answer : Answer) → IsNotPut file.Certificate command.certificate work.certificate.items old new answer → IsSolveAnswer command old new answer
+  not_certified : (work : Work) → IsWorkOn (task_of d p) flat command.nodes work → (new : SeenShelf) (answer : Answer) → IsNotPut file.Certificate command.certificate work.certificate.items old new answer → IsSolveAnswer command old new answer
   not_certified work is new (CannotWrite f) (same, cut) =
       subst (λ f. IsSolveAnswer command old new (CannotWrite f)) (sym same)
-      (record { domain = d; problem = p; pair = pair; claim = claim_of work.answer; certificate = work.certificate.items; certified = is.certified; prefix = cut.prefix; failed = cut.failed })
+      (record { domain = d; problem = p; pair = pair; flat = flat; is_flat = is_flat; answer = work.answer; certificate = work.certificate.items; certified = is.certified; plan = work.plan.items; true_answer = is.true_answer; prefix = cut.prefix; failed = cut.failed })
   not_certified work is new OutOfMemory same = inl same
   not_certified work is new answer unput = absurd unput
 
   module _ (text plan : List ℕ) (between new : SeenShelf) (put : WasPut command.certificate text old between) where
     -- after the certificate was put nothing else was
-    answered : (own : SolveAnswer) (certified : IsCertified (flat_of d p) command.nodes (claim_of own) text) → IsTrueOfPair d p command.nodes plan certified.certificate.entries own
+    answered : (own : SolveAnswer) (certified : IsCertified flat command.nodes (claim_of own) text) → IsTrueOfTask (task_of d p) flat command.nodes plan certified.certificate.entries own
         → Changes old.files between.files (HasPutFor command text plan own) → (answer : Answer) → answer ≡ Solved own → new ≡ between → IsSolveAnswer command old new answer
     answered own certified true_answer there answer said same =
         subst (λ (a : Answer). IsSolveAnswer command old new a) (sym said) (subst (λ (s : SeenShelf). IsRightSolve command own old s) (sym same)
-        (record { domain = d; problem = p; pair = pair; certificate = text; certified = certified; plan = plan; true_answer = true_answer; put = there; faultless = put.faultless }))
+        (record { domain = d; problem = p; pair = pair; flat = flat; is_flat = is_flat; certificate = text; certified = certified; plan = plan; true_answer = true_answer; put = there; faultless = put.faultless }))
 
-    module _ (cost : ℕ) (certified : IsCertified (flat_of d p) command.nodes (Number cost) text) (true_answer : IsTrueOfPair d p command.nodes plan certified.certificate.entries (Optimal cost)) where
+    module _ (cost : ℕ) (certified : IsCertified flat command.nodes (Number cost) text) (true_answer : IsTrueOfTask (task_of d p) flat command.nodes plan certified.certificate.entries (Optimal cost)) where
       planned : WasPut command.plan plan between new → IsRightSolve command (Optimal cost) old new
       planned second = record {
         domain = d;
         problem = p;
         pair = pair;
+        flat = flat;
+        is_flat = is_flat;
         certificate = text;
         certified = certified;
         plan = plan;
@@ -98,6 +105,8 @@ module _ (command : Solve) (apart : bytes_eq command.plan command.certificate �
             domain = d;
             problem = p;
             pair = pair;
+            flat = flat;
+            is_flat = is_flat;
             plan = plan;
             cost = cost;
             cheapest = true_answer;
@@ -108,22 +117,23 @@ module _ (command : Solve) (apart : bytes_eq command.plan command.certificate �
           })
       not_planned OutOfMemory same =
           inr (subst (OnlyCertified command old) (sym same)
-          (record { domain = d; problem = p; pair = pair; claim = Number cost; certificate = text; certified = certified; put = put.there; faultless = put.faultless }))
+          (record { domain = d; problem = p; pair = pair; flat = flat; is_flat = is_flat; plan = plan; cost = cost; cheapest = true_answer; certificate = text; certified = certified; put = put.there; faultless = put.faultless }))
       not_planned answer unput = absurd unput
 
     -- after the certificate was put
-    concluded : (own : SolveAnswer) (certified : IsCertified (flat_of d p) command.nodes (claim_of own) text) → IsTrueOfPair d p command.nodes plan certified.certificate.entries own
+    concluded : (own : SolveAnswer) (certified : IsCertified flat command.nodes (claim_of own) text) → IsTrueOfTask (task_of d p) flat command.nodes plan certified.certificate.entries own
         → (answer : Answer) → Concludes command.plan plan own between new answer → IsSolveAnswer command old new answer
     concluded (Optimal cost) certified true_answer answer (inl done) = subst (λ (a : Answer). IsSolveAnswer command old new a) (sym done.0) (planned cost certified true_answer done.1)
     concluded (Optimal cost) certified true_answer answer (inr unput) = not_planned cost certified true_answer answer unput
     concluded own certified true_answer answer done = answered own certified true_answer put.there answer done.0 done.1
 
-  finished_from : (work : Work) → IsWorkOn d p command.nodes work → (new : SeenShelf) (answer : Answer) → Finishes command work old new answer → IsSolveAnswer command old new answer
+  finished_from : (work : Work) → IsWorkOn (task_of d p) flat command.nodes work → (new : SeenShelf) (answer : Answer) → Finishes command work old new answer → IsSolveAnswer command old new answer
   finished_from work is new answer (inl unput) = not_certified work is new answer unput
   finished_from work is new answer (inr done) = concluded work.certificate.items work.plan.items done.between new done.put work.answer is.certified is.true_answer answer done.concludes
 
--- after the work on a pair that the files hold
-pub finished : (command : Solve) → bytes_eq command.plan command.certificate ≡ false → (old after : SeenShelf) (d : Domain) (p : Problem) → HoldsPair command.inputs old d p → after ≡ old
-    → (work : Work) → IsWorkOn d p command.nodes work → (new : SeenShelf) (answer : Answer) → Finishes command work after new answer → IsSolveAnswer command old new answer
-finished command apart old after d p pair same work is new answer done =
-    finished_from command apart old d p pair work is new answer (subst (λ (s : SeenShelf). Finishes command work s new answer) same done)
+-- after the work on the task of the files
+pub finished : (command : Solve) → bytes_eq command.plan command.certificate ≡ false → (old after : SeenShelf) (task : TaskParts) (flat : Parts) → (after ≡ old) × HoldsFlatAs command.inputs old task flat
+    → (work : Work) → IsWorkOn task flat command.nodes work → (new : SeenShelf) (answer : Answer) → Finishes command work after new answer → IsSolveAnswer command old new answer
+finished command apart old after task flat (same, of) work is new answer done =
+    finished_from command apart old of.held.domain of.held.problem of.held.pair flat (subst (λ (t : TaskParts). IsFlatTaskOf t flat) of.held.task_is of.is_flat) work
+    (subst (λ (t : TaskParts). IsWorkOn t flat command.nodes work) of.held.task_is is) new answer (subst (λ (s : SeenShelf). Finishes command work s new answer) same done)

@@ -1,5 +1,5 @@
 -- From what the reading of the files comes to, to what their pair holds.
-use Rattle.std.proofs.Common.{◌≡◌, ℕ, false, inl, inr, List, Result, Ok, Err, refl, ◌∙◌, subst}
+use Rattle.std.proofs.Common.{◌≡◌, ℕ, ◌^◌, false, inl, inr, List, Result, Ok, Err, refl, sym, ◌∙◌, subst}
 use Rattle.std.specs.Prelude.{IsErrOf}
 use Rattle.np_io.specs.Seen.{SeenShelf}
 use Rattle.np_lex.specs.Tokens.{Lexeme, items_of}
@@ -7,6 +7,9 @@ use Rattle.np_lex.specs.declared.token.Place.{Place}
 use Rattle.np_read.specs.Marks.{Mark}
 use Rattle.np_model.specs.declared.task.TaskParts.{TaskParts}
 use Rattle.np_model.specs.Tasks.{IsTask}
+use Rattle.np_flat.specs.declared.parts.Parts.{Parts}
+use Rattle.np_scale.specs.Scaling.{IsFlatTaskOf}
+use Rattle.np_commands.specs.FlatTasks.{IsNotFlat}
 use Rattle.np_syntax.specs.declared.domain.Domain.{Domain}
 use Rattle.np_syntax.specs.Domains.{IsDomain, domain_text}
 use Rattle.np_words.specs.declared.fault.ReadFault.{ReadFault}
@@ -19,12 +22,11 @@ use Rattle.np_answers.specs.declared.answer.File.TheVariants as file
 use Rattle.np_answers.specs.declared.answer.refusal.Refusal.TheVariants.{TooLong, Typing}
 use Rattle.np_answers.specs.declared.answer.Answer.{Answer}
 use Rattle.np_answers.specs.declared.answer.Answer.TheVariants.{CannotRead, Refused, OutOfMemory}
-use Rattle.np_planner.specs.declared.inputs.TheConstants.{MOST_BYTES}
 use Rattle.np_answers.specs.Words.{Inputs}
 use Rattle.np_planner.specs.Shelves.{IsRead}
 use Rattle.np_planner.specs.ReadSteps.{IsNotRead}
-use Rattle.np_planner.specs.TaskFiles.{IsWithoutValue, IsWithoutProblem, HoldsDomain, HoldsProblem, HoldsBoth, IsWithoutTask}
-use Rattle.np_planner.specs.RunSteps.{unspelled, IsNotSpelled, Reads, Finds, IsNotTyped, Types, FindsTask}
+use Rattle.np_planner.specs.TaskFiles.{IsWithoutValue, IsWithoutProblem, HoldsDomain, HoldsProblem, HoldsBoth, IsWithoutTask, HoldsTaskFor, HoldsFlatFor, IsWithoutFlat}
+use Rattle.np_planner.specs.TaskSteps.{unspelled, IsNotSpelled, Reads, Finds, IsNotTyped, Types, HoldsTaskAs, FindsTask, HoldsFlatAs}
 
 -- ---- one file
 
@@ -41,7 +43,7 @@ module _ {A : Type 0} (IsValue : A → Type 0) (spelling : A → List Lexeme) (m
 
   module _ (name : List ℕ) (old new : SeenShelf) where
     -- its bytes can't be had
-    pub without_bytes : (answer : Answer) → IsNotRead file name MOST_BYTES old new answer → IsWithoutValue IsValue spelling file name old new answer
+    pub without_bytes : (answer : Answer) → IsNotRead file name (2 ^ 24) old new answer → IsWithoutValue IsValue spelling file name old new answer
     without_bytes (CannotRead f) failed = failed
     without_bytes (Refused (TooLong f)) longer = longer
     without_bytes OutOfMemory same = same
@@ -55,9 +57,10 @@ module _ {A : Type 0} (IsValue : A → Type 0) (spelling : A → List Lexeme) (m
     none_held bytes read same answer is = absurd is
 
     -- what they are read as is what is found
-    pub found : (bytes : List ℕ) → IsRead old name bytes → new ≡ old → (r : Result A Answer) → Reads IsValue spelling marks file bytes r → Finds IsValue spelling marks file name old new r
-    found bytes read same (Ok a) (spelled, placed) = (same, record { bytes = bytes; read = read; spelled = spelled; placed = placed })
-    found bytes read same (Err answer) is = none_held bytes read same answer is
+    pub found : (IsReadAs : List ℕ → A → Type 0) (bytes : List ℕ) → IsRead old name bytes → new ≡ old → (r : Result A Answer) → Reads IsValue spelling marks IsReadAs file bytes r
+        → Finds IsValue spelling marks IsReadAs file name old new r
+    found IsReadAs bytes read same (Ok a) (spelled, placed, one) = (same, record { bytes = bytes; read = read; spelled = spelled; placed = placed; one_value = one })
+    found IsReadAs bytes read same (Err answer) is = none_held bytes read same answer is
 
 -- ---- both files
 
@@ -94,3 +97,29 @@ module _ (inputs : Inputs) (old : SeenShelf) where
       },
     )
     task_found (Err answer) is = ill_typed answer is
+
+-- ---- the task, and its flat task
+
+module _ (inputs : Inputs) (old : SeenShelf) (task : TaskParts) (of : HoldsTaskAs inputs old task) where
+  -- what holds of the task
+  pub task_for : (OfTask : TaskParts → Type 0) → OfTask task → HoldsTaskFor inputs old OfTask
+  task_for OfTask is = record { domain = of.domain; problem = of.problem; pair = of.pair; of_task = subst OfTask of.task_is is }
+
+  pub is_task : IsTask task
+  is_task = subst IsTask (sym of.task_is) of.pair.is_task
+
+module _ (inputs : Inputs) (old : SeenShelf) (task : TaskParts) (flat : Parts) (of : HoldsFlatAs inputs old task flat) where
+  -- what holds of the task and its flat task
+  pub flat_for : (OfFlat : TaskParts → Parts → Type 0) → OfFlat task flat → HoldsFlatFor inputs old OfFlat
+  flat_for OfFlat is = record {
+    domain = of.held.domain;
+    problem = of.held.problem;
+    pair = of.held.pair;
+    flat = flat;
+    is_flat = subst (λ (t : TaskParts). IsFlatTaskOf t flat) of.held.task_is of.is_flat;
+    of_flat = subst (λ (t : TaskParts). OfFlat t flat) of.held.task_is is;
+  }
+
+-- the task has no flat task
+pub not_flat : (inputs : Inputs) (old after : SeenShelf) (task : TaskParts) → (after ≡ old) × HoldsTaskAs inputs old task → (answer : Answer) → IsNotFlat task answer → IsWithoutFlat inputs old after answer
+not_flat inputs old after task (same, of) answer is = inr (same, task_for inputs old task of (λ t. IsNotFlat t answer) is)

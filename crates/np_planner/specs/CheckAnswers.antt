@@ -1,80 +1,93 @@
 -- Which answers of `check` are right.
-use Rattle.std.specs.Prelude.{◌≡◌, ℕ, ◌≤◌, pos, List, length, Option, Some}
+use Rattle.std.specs.Prelude.{◌≡◌, ℕ, pos, List, Option, Some, None}
 use Rattle.np_io.specs.Seen.{SeenShelf}
+use Rattle.np_io.specs.Files.{Files}
 use Rattle.np_frac.specs.Fractions.{whole}
+use Rattle.np_model.specs.declared.task.Step.{Step}
 use Rattle.np_model.specs.declared.task.TaskParts.{TaskParts}
-use Rattle.np_model.specs.Plans.{IsUnsolvable, NoPlanBelow}
+use Rattle.np_model.specs.Plans.{IsPlan}
+use Rattle.np_syntax.specs.declared.domain.Domain.{Domain}
+use Rattle.np_problem.specs.declared.problem.Problem.{Problem}
+use Rattle.np_typing.specs.TaskOf.{task_of}
+use Rattle.np_flat.specs.declared.parts.Parts.{Parts}
+use Rattle.np_scale.specs.Scaling.{IsFlatTaskOf}
 use Rattle.np_cert.specs.declared.certificate.Limit.{Limit}
-use Rattle.np_cert.specs.declared.certificate.Limit.TheVariants.{Number, Absent}
+use Rattle.np_cert.specs.declared.certificate.Limit.TheVariants.{Number}
 use Rattle.np_cert.specs.declared.certificate.Certificate.{Certificate}
-use Rattle.np_cert.specs.Text.{Spells, IsThin}
 use Rattle.np_cert.specs.Valid.{IsValid}
-use Rattle.np_check.specs.declared.verdict.Verdict.{Verdict}
-use Rattle.np_check.specs.declared.verdict.Verdict.TheVariants.{BadProof, TwiceEntry, BadEntry, BadClaim}
-use Rattle.np_check.specs.Verdicts.{IsVerdict}
-use Rattle.np_first_text.specs.declared.syntax.Domain.{Domain}
-use Rattle.np_first_text.specs.declared.syntax.Problem.{Problem}
-use Rattle.np_first_text.specs.FirstForm.{SpellsPair}
-use Rattle.np_first_text.specs.TaskOf.{task_of}
-use Rattle.np_first.specs.FlatOf.{flat_of}
 use Rattle.np_answers.specs.declared.answer.check.CheckAnswer.{CheckAnswer}
-use Rattle.np_answers.specs.declared.answer.check.CheckAnswer.TheVariants.{Yes, No}
-use Rattle.np_answers.specs.declared.answer.check.Fault.{Fault}
-use Rattle.np_answers.specs.declared.answer.check.Fault.TheVariants.{ProofFails, Repeats, Unjustified, ClaimAbove}
-use Rattle.np_planner.specs.declared.inputs.TheConstants.{MOST_BYTES}
+use Rattle.np_answers.specs.declared.answer.Answer.{Answer}
+use Rattle.np_answers.specs.declared.answer.Answer.TheVariants.{Checked, OutOfMemory}
 use Rattle.np_answers.specs.Words.{Check}
-use Rattle.np_planner.specs.Shelves.{HoldsPair, HoldsCertificate}
+use Rattle.np_commands.specs.Checking.{IsTrueOfCertificate, IsTrueOfPlan}
+use Rattle.np_planner.specs.TaskFiles.{HoldsTask, HoldsFlatFor}
+use Rattle.np_planner.specs.GivenFiles.{HoldsCertificate, IsWithoutCertificate, HoldsPlan, HoldsStepsFor, IsWithoutPlan}
 
--- what a claim says of the plans of a task: none, of any length, costs less, or there is none
-abbrev pub IsTrueClaim : Limit → TaskParts → Type 0
-IsTrueClaim (Number claim) task = NoPlanBelow task (whole (pos claim))
-IsTrueClaim Absent task = IsUnsolvable task
+-- an answer where there is a flat task, but no certificate that is judged
+abbrev pub IsCheckWithoutCertificate : Check → SeenShelf → SeenShelf → Answer → Type 0
+IsCheckWithoutCertificate command old new answer = HoldsFlatFor command.inputs old (λ task flat. IsWithoutCertificate command.certificate old new answer)
 
--- the checker's verdict that names a fault
-abbrev pub verdict_of : Fault → Verdict
-verdict_of (ProofFails proof) = BadProof proof
-verdict_of (Repeats entry) = TwiceEntry entry
-verdict_of (Unjustified entry) = BadEntry entry
-verdict_of ClaimAbove = BadClaim
+-- the words name a plan and the certificate could be had, but the plan can't
+pub record IsWithoutNamed (command : Check) (task : TaskParts) (old new : SeenShelf) (answer : Answer) : Type 0 where
+  pub certificate : Certificate
+  pub written : HoldsCertificate command.certificate old certificate
+  pub name : List ℕ
+  pub named : command.plan ≡ Some name
+  pub without : IsWithoutPlan task name old new answer
 
--- the certificate is valid for the pair's flat task; so its claim is true of the pair's plans
-pub record IsValidClaim (d : Domain) (p : Problem) (c : Certificate) (claim : Limit) : Type 0 where
-  pub claim_is : c.claim ≡ claim
-  pub valid : IsValid (flat_of d p) c
-  pub true_claim : IsTrueClaim claim (task_of d p)
+-- an answer where there are a flat task and a certificate, but not the plan that the words name
+abbrev pub IsCheckWithoutPlan : Check → SeenShelf → SeenShelf → Answer → Type 0
+IsCheckWithoutPlan command old new answer = HoldsFlatFor command.inputs old (λ task flat. IsWithoutNamed command task old new answer)
 
--- what an answer says of a pair and a certificate
-abbrev pub IsTrueOfCertificate : Domain → Problem → Certificate → CheckAnswer → Type 0
-IsTrueOfCertificate d p c (Yes claim) = IsValidClaim d p c claim
-IsTrueOfCertificate d p c (No fault) = IsVerdict (flat_of d p) c (verdict_of fault)
+-- what an answer says of a certificate, and of the steps under the name of the plan, where the words name one
+abbrev pub IsTrueBeside : TaskParts → Parts → Certificate → Option (List ℕ) → SeenShelf → CheckAnswer → Type 0
+IsTrueBeside task flat c None shelf answer = IsTrueOfCertificate task flat c answer
+IsTrueBeside task flat c (Some name) shelf answer = HoldsStepsFor task name shelf (λ steps. IsTrueOfPlan task flat c steps answer)
 
--- a pair of the first form and a certificate of the thin form are under the names of the words, and the answer is true of them
+-- under the names of the words are a task that has a flat task, a certificate by expansion, and, where they name one, a plan; and the
+-- answer is true of them
 pub record IsRightCheck (command : Check) (answer : CheckAnswer) (shelf : SeenShelf) : Type 0 where
   pub domain : Domain
   pub problem : Problem
-  pub pair : HoldsPair command.inputs shelf domain problem
+  pub pair : HoldsTask command.inputs shelf domain problem
+  pub flat : Parts
+  pub is_flat : IsFlatTaskOf (task_of domain problem) flat
   pub certificate : Certificate
   pub written : HoldsCertificate command.certificate shelf certificate
-  pub thin : IsThin certificate
-  pub true_answer : IsTrueOfCertificate domain problem certificate answer
+  pub true_answer : IsTrueBeside (task_of domain problem) flat certificate command.plan shelf answer
 
--- the shelf tells what it holds, and under the three names are a pair of the first form and a certificate with this claim that is valid
--- for its flat task
+-- an answer of `check` to all that its words name; it changes no file
+abbrev pub IsCheckAnswer : Check → SeenShelf → SeenShelf → Answer → Type 0
+IsCheckAnswer command old new (Checked answer) = (new ≡ old) × IsRightCheck command answer old
+IsCheckAnswer command old new OutOfMemory = new ≡ old
+IsCheckAnswer command old new answer = ⊥
+
+-- ---- what gets a yes
+
+-- the shelf tells what it holds, and under the names of the words are a task that has a flat task, and a certificate by expansion with this
+-- claim that is valid for it
 pub record HoldsValid (command : Check) (claim : Limit) (shelf : SeenShelf) : Type 0 where
-  pub files : List ℕ → Option (List ℕ)
+  pub files : Files
   pub told : shelf.files ≡ Some files
-  pub domain_bytes : List ℕ
-  pub problem_bytes : List ℕ
-  pub certificate_bytes : List ℕ
-  pub domain_is : files command.inputs.domain ≡ Some domain_bytes
-  pub problem_is : files command.inputs.problem ≡ Some problem_bytes
-  pub certificate_is : files command.certificate ≡ Some certificate_bytes
-  pub domain_short : length domain_bytes ≤ MOST_BYTES
-  pub problem_short : length problem_bytes ≤ MOST_BYTES
   pub domain : Domain
   pub problem : Problem
-  pub spelled : SpellsPair domain_bytes problem_bytes domain problem
+  pub pair : HoldsTask command.inputs shelf domain problem
+  pub flat : Parts
+  pub is_flat : IsFlatTaskOf (task_of domain problem) flat
   pub certificate : Certificate
-  pub certificate_spelled : Spells certificate_bytes certificate
-  pub valid : IsValid (flat_of domain problem) certificate
+  pub written : HoldsCertificate command.certificate shelf certificate
+  pub valid : IsValid flat certificate
   pub claim_is : certificate.claim ≡ claim
+
+-- the words name a plan, and under its name are steps that are a plan of the task, of this cost
+pub record HoldsPlanOf (command : Check) (task : TaskParts) (cost : ℕ) (shelf : SeenShelf) : Type 0 where
+  pub name : List ℕ
+  pub named : command.plan ≡ Some name
+  pub steps : List Step
+  pub held : HoldsPlan task name shelf steps
+  pub is_plan : IsPlan task steps (whole (pos cost))
+
+-- both, with the plan's cost as the claim
+pub record HoldsOptimal (command : Check) (cost : ℕ) (shelf : SeenShelf) : Type 0 where
+  pub valid : HoldsValid command (Number cost) shelf
+  pub plan : HoldsPlanOf command (task_of valid.domain valid.problem) cost shelf

@@ -1,13 +1,14 @@
 pub mod CheckAnswers
-pub mod CheckSteps
+pub mod Completeness
+pub mod GivenFiles
+pub mod GivenSteps
 pub mod ListAnswers
-pub mod ListSteps
 pub mod Promises
 pub mod ReadSteps
 pub mod RightAnswers
 pub mod RunAnswers
-pub mod RunSteps
 pub mod Shelves
 pub mod SolveAnswers
 pub mod SolveSteps
 pub mod TaskFiles
+pub mod TaskSteps

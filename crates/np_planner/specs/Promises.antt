@@ -1,5 +1,5 @@
 -- What the top call promises, status by status.
-use Rattle.std.specs.Prelude.{◌≡◌, ℕ, ⊤, ◌==◌, ◌⊎◌, List, Option, Some, None, if◌then◌else◌}
+use Rattle.std.specs.Prelude.{◌≡◌, ℕ, ⊤, ◌==◌, ◌⊎◌, List, [], ◌∷◌, Option, Some, None, if◌then◌else◌}
 use Rattle.np_io.specs.Seen.{SeenShelf, SeenSink}
 use Rattle.np_io.specs.Files.{Files}
 use Rattle.np_io.specs.Counts.{Rose}
@@ -12,13 +12,14 @@ use Rattle.np_answers.specs.declared.answer.refusal.Refusal.{Refusal}
 use Rattle.np_answers.specs.declared.answer.solve.SolveAnswer.{SolveAnswer}
 use Rattle.np_answers.specs.declared.answer.solve.SolveAnswer.TheVariants.{Optimal, Unsolvable, Spent}
 use Rattle.np_answers.specs.declared.answer.check.CheckAnswer.{CheckAnswer}
-use Rattle.np_answers.specs.declared.answer.check.CheckAnswer.TheVariants.{Yes, No}
+use Rattle.np_answers.specs.declared.answer.check.CheckAnswer.TheVariants.{Yes, YesPlan, No}
 use Rattle.np_answers.specs.declared.answer.check.Fault.{Fault}
 use Rattle.np_answers.specs.declared.answer.Answer.{Answer}
 use Rattle.np_answers.specs.declared.answer.Answer.TheVariants.{Usage, CannotRead, Refused, Solved, Checked, Ran, Listed, CannotWrite, OutOfMemory}
 use Rattle.np_answers.specs.Words.{Inputs, Solve, Check, Run, Command, solving, checking, running, listing, command_of}
-use Rattle.np_planner.specs.SolveAnswers.{IsRightSolve, claim_of}
-use Rattle.np_planner.specs.CheckAnswers.{IsRightCheck, HoldsValid}
+use Rattle.np_commands.specs.Solving.{claim_of}
+use Rattle.np_planner.specs.SolveAnswers.{IsRightSolve}
+use Rattle.np_planner.specs.CheckAnswers.{IsRightCheck, HoldsValid, HoldsOptimal}
 use Rattle.np_planner.specs.RunAnswers.{IsRightRun}
 use Rattle.np_planner.specs.ListAnswers.{IsRightList}
 use Rattle.np_planner.specs.RightAnswers.{IsRight, IsRightTo}
@@ -83,29 +84,38 @@ pub record IsTold (call : Call) (command : Command) (answer : Answer) : Type 0 w
   pub says : Says call answer
   pub right : IsRightTo command call.before call.after answer
 
--- what `check` is told of the files of `solve`
+-- what `check` is told of the files of `solve`, without the plan, and with it
 abbrev pub check_after : Solve → Check
-check_after command = record { inputs = command.inputs; certificate = command.certificate }
+check_after command = record { inputs = command.inputs; certificate = command.certificate; plan = None }
+
+abbrev pub check_plan_after : Solve → Check
+check_plan_after command = record { inputs = command.inputs; certificate = command.certificate; plan = Some command.plan }
 
 -- where the shelf tells what it holds afterwards, the certificate under CERT is one to which `check` says yes, with this claim
 abbrev pub IsCheckable : Call → Solve → Limit → Type 0
 IsCheckable call command claim = (files : Files) → call.after.files ≡ Some files → HoldsValid (check_after command) claim call.after
 
--- the text of this answer of `solve` was pushed; it is true of the pair of the files, and `check` says yes to the certificate that was put
+-- and to which, with the plan under PLAN, it says yes too
+abbrev pub IsPlanCheckable : Call → Solve → ℕ → Type 0
+IsPlanCheckable call command cost = (files : Files) → call.after.files ≡ Some files → HoldsOptimal (check_plan_after command) cost call.after
+
+-- the text of this answer of `solve` was pushed; it is true of the task of the files, and `check` says yes to the certificate that was put
 pub record IsSolveTold (call : Call) (command : Solve) (answer : SolveAnswer) : Type 0 where
   pub says : Says call (Solved answer)
   pub right : IsRightSolve command answer call.before call.after
   pub checkable : IsCheckable call command (claim_of answer)
 
 -- `Optimal C, weak 0`: the plan that was put is a cheapest one, of cost C, and the certificate that was put says that none costs less
-abbrev pub IsOptimal : Call → Solve → Type 0
-IsOptimal call command = (cost : ℕ) × IsSolveTold call command (Optimal cost)
+pub record IsOptimal (call : Call) (command : Solve) : Type 0 where
+  pub cost : ℕ
+  pub told : IsSolveTold call command (Optimal cost)
+  pub plan_checkable : IsPlanCheckable call command cost
 
--- `Unsolvable, weak 0`: the pair has no plan, and the certificate that was put says so
+-- `Unsolvable, weak 0`: the task has no plan, and the certificate that was put says so
 abbrev pub HasNoPlan : Call → Solve → Type 0
 HasNoPlan call command = IsSolveTold call command Unsolvable
 
--- `Budget spent N, bound L, weak 0`: N is the budget of the words, and all that is said of N and L is true of the pair; the certificate that
+-- `Budget spent N, bound L, weak 0`: N is the budget of the words, and all that is said of N and L is true of the task; the certificate that
 -- was put says that no plan costs less than L
 abbrev pub IsBudgetSpent : Call → Solve → Type 0
 IsBudgetSpent call command = (bound : ℕ) × IsSolveTold call command (Spent command.nodes bound)
@@ -116,11 +126,16 @@ pub record IsCheckTold (call : Call) (command : Check) (answer : CheckAnswer) : 
   pub right : IsRightCheck command answer call.before
   pub untouched : call.after ≡ call.before
 
--- `Yes: ..`: the certificate is valid for the pair of the files, and its claim is true of the pair's plans
-abbrev pub IsYes : Call → Check → Type 0
-IsYes call command = (claim : Limit) × IsCheckTold call command (Yes claim)
+-- `Yes: ..`: the certificate is valid for the flat task of the files' task, and its claim is true of the task's plans; where the words name a
+-- plan, moreover it is one of the task, and its cost is the claim
+abbrev pub IsYesBeside : Option (List ℕ) → Call → Check → Type 0
+IsYesBeside None call command = (claim : Limit) × IsCheckTold call command (Yes claim)
+IsYesBeside (Some name) call command = (cost : ℕ) × IsCheckTold call command (YesPlan cost)
 
--- `No: ..`: it names the certificate's first fault
+abbrev pub IsYes : Call → Check → Type 0
+IsYes call command = IsYesBeside command.plan call command
+
+-- `No: ..`: it names the first fault of the certificate, or else of the plan
 abbrev pub IsNo : Call → Check → Type 0
 IsNo call command = (fault : Fault) × IsCheckTold call command (No fault)
 
@@ -204,11 +219,32 @@ Promise command status call = ⊥
 abbrev pub KeepsPromise : Call → ℕ → Type 0
 KeepsPromise call status = Promise call.command (status_named status) call
 
--- no read of a file of the words failed in the call, and no push
-pub record HadNoFault (call : Call) (command : Check) : Type 0 where
-  pub domain : Rose (call.before.read_faults command.inputs.domain) (call.after.read_faults command.inputs.domain) → ⊥
-  pub problem : Rose (call.before.read_faults command.inputs.problem) (call.after.read_faults command.inputs.problem) → ⊥
-  pub certificate : Rose (call.before.read_faults command.certificate) (call.after.read_faults command.certificate) → ⊥
+-- ---- a call without a fault
+
+-- the files that a command reads, and those that it puts
+abbrev pub names_in : Option (List ℕ) → List (List ℕ)
+names_in None = []
+names_in (Some name) = name ∷ []
+
+abbrev pub reads_of : Command → List (List ℕ)
+reads_of (solving solve) = solve.inputs.domain ∷ solve.inputs.problem ∷ []
+reads_of (checking check) = check.inputs.domain ∷ check.inputs.problem ∷ check.certificate ∷ names_in check.plan
+reads_of (running run) = run.inputs.domain ∷ run.inputs.problem ∷ run.plan ∷ []
+reads_of (listing inputs) = inputs.domain ∷ inputs.problem ∷ []
+
+abbrev pub puts_of : Command → List (List ℕ)
+puts_of (solving solve) = solve.certificate ∷ solve.plan ∷ []
+puts_of command = []
+
+-- no count of these names rose
+abbrev pub NoneRose : (List ℕ → ℕ) → (List ℕ → ℕ) → List (List ℕ) → Type 0
+NoneRose before after [] = ⊤
+NoneRose before after (name ∷ names) = (Rose (before name) (after name) → ⊥) × NoneRose before after names
+
+-- no read of a file that the command reads failed in the call, no write of one that it puts, and no push
+pub record HadNoFault (call : Call) (command : Command) : Type 0 where
+  pub reads : NoneRose call.before.read_faults call.after.read_faults (reads_of command)
+  pub writes : NoneRose call.before.write_faults call.after.write_faults (puts_of command)
   pub sink : Rose call.out_before.faults call.out_after.faults → ⊥
 
 -- the words are those of `solve`, and this holds of them
@@ -218,16 +254,19 @@ pub record WhenSolving (call : Call) (Holds : Solve → Type 0) : Type 0 where
   pub holds : Holds command
 
 -- THE HEADLINE. What `solve` prints is true: the plan runs, meets the goal and costs the printed number, and no plan of any length costs
--- less; or there is none; or no plan costs less than the bound. What it puts is a certificate to which `check` says yes. And the yes of
--- `check`, on whatever bytes, is true of its claim, and comes for every valid certificate, where nothing fails and memory is there. What
--- `run` says of a plan's file is true of the task of the two files. What `list` prints is the text of the flat task of that task, by the
--- definitions of binding and scaling.
+-- less; or there is none; or no plan costs less than the bound. What it puts is a certificate to which `check` says yes, also with the plan.
+-- And the yes of `check`, on whatever bytes, is true of its claim and of the plan, and comes for every valid certificate by expansion, and with
+-- every plan whose cost is the claim, where nothing fails and memory is there. What `run` says of a plan's file is true of the task of the two
+-- files. What `list` prints is the text of the flat task of that task, by the definitions of binding and scaling.
 pub record KeepsItsWord (call : Call) (status : ℕ) : Type 0 where
   pub optimal : (command : Solve) → call.command ≡ Some (solving command) → status ≡ 0 → IsOptimal call command
   pub unsolvable : status ≡ 10 → WhenSolving call (HasNoPlan call)
   pub spent : status ≡ 11 → WhenSolving call (IsBudgetSpent call)
   pub yes : (command : Check) → call.command ≡ Some (checking command) → status ≡ 0 → IsYes call command
-  pub yes_comes : (command : Check) (claim : Limit) → call.command ≡ Some (checking command) → HoldsValid command claim call.before → HadNoFault call command → ((status ≡ 0) × Says call (Checked (Yes claim))) ⊎ (status ≡ 7)
+  pub yes_comes : (command : Check) (claim : Limit) → call.command ≡ Some (checking command) → command.plan ≡ None → HoldsValid command claim call.before
+      → HadNoFault call (checking command) → ((status ≡ 0) × Says call (Checked (Yes claim))) ⊎ (status ≡ 7)
+  pub plan_yes_comes : (command : Check) (cost : ℕ) → call.command ≡ Some (checking command) → HoldsOptimal command cost call.before
+      → HadNoFault call (checking command) → ((status ≡ 0) × Says call (Checked (YesPlan cost))) ⊎ (status ≡ 7)
   pub runs : (command : Run) → call.command ≡ Some (running command) → status ≡ 0 → IsPlanTold call command
   pub runs_not : (command : Run) → call.command ≡ Some (running command) → status ≡ 6 → IsNoPlanTold call command
   pub lists : (inputs : Inputs) → call.command ≡ Some (listing inputs) → status ≡ 0 → IsListTold call inputs

@@ -1,47 +1,20 @@
 -- What a command finds on a shelf, and what it leaves there.
-use Rattle.std.specs.Prelude.{◌≡◌, ℕ, ◌≤◌, Some, List, length, false, take}
+use Rattle.std.specs.Prelude.{◌≡◌, ℕ, ◌≤◌, ◌^◌, Some, List, length, false, take}
 use Rattle.std.specs.Str.{bytes_eq}
 use Rattle.np_io.specs.Seen.{SeenShelf}
 use Rattle.np_io.specs.Files.{Files, IsHeld}
 use Rattle.np_io.specs.Counts.{Rose, OnlyAt}
-use Rattle.np_model.specs.Tasks.{IsTask}
-use Rattle.np_cert.specs.declared.certificate.Certificate.{Certificate}
-use Rattle.np_cert.specs.Text.{Spells}
-use Rattle.np_first_text.specs.declared.syntax.Domain.{Domain}
-use Rattle.np_first_text.specs.declared.syntax.Problem.{Problem}
-use Rattle.np_first_text.specs.FirstForm.{SpellsPair}
-use Rattle.np_first_text.specs.TaskOf.{task_of}
-use Rattle.np_planner.specs.declared.inputs.TheConstants.{MOST_BYTES}
-use Rattle.np_answers.specs.Words.{Inputs}
 
--- the name could be read: where it is told, these bytes are under it, and there are at most so many
+-- the name could be read: where it is told, these bytes are under it, at most 2^24 of them
 pub record IsRead (shelf : SeenShelf) (name bytes : List ℕ) : Type 0 where
   pub held : IsHeld shelf.files name bytes
-  pub within : length bytes ≤ MOST_BYTES
+  pub within : length bytes ≤ 2 ^ 24
 
--- some bytes could be read
-pub record WasRead (shelf : SeenShelf) (name : List ℕ) : Type 0 where
-  pub bytes : List ℕ
-  pub read : IsRead shelf name bytes
-
--- both files of a pair could be read
-pub record AreRead (inputs : Inputs) (shelf : SeenShelf) (domain problem : List ℕ) : Type 0 where
-  pub domain_read : IsRead shelf inputs.domain domain
-  pub problem_read : IsRead shelf inputs.problem problem
-
--- the files spell this pair, which is of the first form, and its task is well formed
-pub record HoldsPair (inputs : Inputs) (shelf : SeenShelf) (d : Domain) (p : Problem) : Type 0 where
-  pub domain_bytes : List ℕ
-  pub problem_bytes : List ℕ
-  pub read : AreRead inputs shelf domain_bytes problem_bytes
-  pub spelled : SpellsPair domain_bytes problem_bytes d p
-  pub well_formed : IsTask (task_of d p)
-
--- the bytes under the name, where they are told, spell this certificate
-pub record HoldsCertificate (name : List ℕ) (shelf : SeenShelf) (c : Certificate) : Type 0 where
+-- the bytes under the name, where they are told, are these, and this holds of them
+pub record HoldsBytesFor (name : List ℕ) (shelf : SeenShelf) (OfBytes : List ℕ → Type 0) : Type 0 where
   pub bytes : List ℕ
   pub held : IsHeld shelf.files name bytes
-  pub spelled : Spells bytes c
+  pub of_bytes : OfBytes bytes
 
 -- one read of the name failed, and nothing else did; the files are as before
 pub record ReadFailed (name : List ℕ) (old new : SeenShelf) : Type 0 where

@@ -3,6 +3,7 @@ ghost use Rattle.std.specs.Prelude.{◌≤◌, map, string_bytes};
 ghost use Rattle.np_answers.specs.Words.{command_of};
 ghost use Rattle.np_planner.specs.RightAnswers.{IsRight};
 ghost use Rattle.np_planner.specs.Promises.{call_of, IsAnswered, KeepsPromise, KeepsItsWord};
+ghost use Rattle.np_planner.specs.Completeness.{IsComplete};
 
 use crate::check::check;
 use crate::list::list;
@@ -27,14 +28,16 @@ fn answer<S: Shelf>(alloc: Global, words: &[String], shelf: &mut S) -> Answer
 
 /// Does what the words say, says so, and gives the status to end with.
 ///
-/// `answered` is the whole, and the other clauses follow from it: `promised` says what each status means, and `headline` the
-/// product's promise.
+/// `answered` is the whole, and the other clauses follow from it: `promised` says what each status means, `headline` is the
+/// product's promise, and `complete` says that files that aren't refused get an answer.
 pub fn planner<S: Shelf, O: Sink>(alloc: Global, words: &[String], shelf: &mut S, out: &mut O) -> u8
     ensures answered { IsAnswered
         (call_of (map string_bytes words.now) (S.seen shelf.old) (S.seen shelf.new) (O.seen out.old) (O.seen out.new)) result }
     ensures promised { KeepsPromise
         (call_of (map string_bytes words.now) (S.seen shelf.old) (S.seen shelf.new) (O.seen out.old) (O.seen out.new)) result }
     ensures headline { KeepsItsWord
+        (call_of (map string_bytes words.now) (S.seen shelf.old) (S.seen shelf.new) (O.seen out.old) (O.seen out.new)) result }
+    ensures complete { IsComplete
         (call_of (map string_bytes words.now) (S.seen shelf.old) (S.seen shelf.new) (O.seen out.old) (O.seen out.new)) result }
     ensures later { (O.seen out.old).faults ≤ (O.seen out.new).faults }
 {

@@ -3,6 +3,7 @@
 
 mod check;
 mod entry;
+mod given_files;
 mod inputs;
 mod list;
 mod run;

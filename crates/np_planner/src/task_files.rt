@@ -1,14 +1,16 @@
-//! The task that the pair of files of a command stands for.
+//! The task that the pair of files of a command stands for, and its flat task.
 ghost use Rattle.std.specs.Prelude.{◌≡◌};
-ghost use Rattle.np_syntax.specs.Domains.{IsDomain, domain_text, domain_marks};
+ghost use Rattle.np_syntax.specs.Domains.{IsDomain, domain_text, domain_marks, IsRead as IsReadDomain};
 ghost use Rattle.np_problem.specs.ProblemText.{IsProblem};
-ghost use Rattle.np_problem.specs.Problems.{problem_text, problem_marks};
+ghost use Rattle.np_problem.specs.Problems.{problem_text, problem_marks, IsRead as IsReadProblem};
 ghost use Rattle.np_typing.specs.Typing.{IsSpelledPair};
 ghost use Rattle.np_answers.specs.CommandSteps.{told_inputs};
-ghost use Rattle.np_planner.specs.RunSteps.{unspelled, Reads, Finds, FindsBoth, Types, FindsTask};
+ghost use Rattle.np_planner.specs.TaskSteps.{unspelled, Reads, Finds, FindsBoth, Types, FindsTask, FindsFlat};
 
 use crate::inputs::read;
 use np_answers::{Answer, File, Inputs, Refusal};
+use np_commands::flat_task;
+use np_flat::Flat;
 use np_io::Shelf;
 use np_model::Task;
 use np_problem::{Problem, read_problem};
@@ -29,7 +31,7 @@ fn unspelled(file: File, fault: ReadFault) -> Answer
 
 /// The domain that bytes spell, or the answer where they spell none.
 fn domain_of(alloc: Global, bytes: &[u8]) -> Result<Domain, Answer>
-    ensures { Reads IsDomain domain_text domain_marks File.Domain bytes.now result }
+    ensures { Reads IsDomain domain_text domain_marks IsReadDomain File.Domain bytes.now result }
 {
     match read_domain(alloc, bytes) {
         Ok(domain) => Ok(domain),
@@ -39,7 +41,7 @@ fn domain_of(alloc: Global, bytes: &[u8]) -> Result<Domain, Answer>
 
 /// The problem that bytes spell, or the answer where they spell none.
 fn problem_of(alloc: Global, bytes: &[u8]) -> Result<Problem, Answer>
-    ensures { Reads IsProblem problem_text problem_marks File.Problem bytes.now result }
+    ensures { Reads IsProblem problem_text problem_marks IsReadProblem File.Problem bytes.now result }
 {
     match read_problem(alloc, bytes) {
         Ok(problem) => Ok(problem),
@@ -49,7 +51,7 @@ fn problem_of(alloc: Global, bytes: &[u8]) -> Result<Problem, Answer>
 
 /// The domain under a name, or the answer where there is none.
 fn held_domain<S: Shelf>(alloc: Global, name: &str, shelf: &mut S) -> Result<Domain, Answer>
-    ensures { Finds IsDomain domain_text domain_marks File.Domain name.now (S.seen shelf.old) (S.seen shelf.new) result }
+    ensures { Finds IsDomain domain_text domain_marks IsReadDomain File.Domain name.now (S.seen shelf.old) (S.seen shelf.new) result }
 {
     match read(alloc, shelf, name, File::Domain) {
         Ok(bytes) => domain_of(alloc, bytes.as_slice()),
@@ -59,7 +61,7 @@ fn held_domain<S: Shelf>(alloc: Global, name: &str, shelf: &mut S) -> Result<Dom
 
 /// The problem under a name, or the answer where there is none.
 fn held_problem<S: Shelf>(alloc: Global, name: &str, shelf: &mut S) -> Result<Problem, Answer>
-    ensures { Finds IsProblem problem_text problem_marks File.Problem name.now (S.seen shelf.old) (S.seen shelf.new) result }
+    ensures { Finds IsProblem problem_text problem_marks IsReadProblem File.Problem name.now (S.seen shelf.old) (S.seen shelf.new) result }
 {
     match read(alloc, shelf, name, File::Problem) {
         Ok(bytes) => problem_of(alloc, bytes.as_slice()),
@@ -110,6 +112,33 @@ pub fn held_task<S: Shelf>(
 {
     match held_both(alloc, inputs, shelf) {
         Ok((domain, problem)) => typed(alloc, &domain, &problem),
+        Err(answer) => Err(answer),
+    }
+}
+
+/// A task and its flat task.
+#[derive(Drop)]
+pub struct Pair {
+    /// The task.
+    pub task: Task,
+    /// Its flat task.
+    pub flat: Flat,
+}
+
+/// The task that the files stand for, and its flat task, or the answer where they stand for none, or it has none.
+pub fn held_flat<S: Shelf>(
+    alloc: Global,
+    inputs: &Inputs<'_>,
+    shelf: &mut S,
+) -> Result<Pair, Answer>
+    ensures { FindsFlat (told_inputs inputs.now) (S.seen shelf.old) (S.seen shelf.new) result }
+{
+    let task = match held_task(alloc, inputs, shelf) {
+        Ok(task) => task,
+        Err(answer) => return Err(answer),
+    };
+    match flat_task(alloc, &task) {
+        Ok(flat) => Ok(Pair { task, flat }),
         Err(answer) => Err(answer),
     }
 }

@@ -7,7 +7,7 @@ use std::process::Abort;
 use std::rt::Env;
 
 const USAGE: &str =
-    "usage: solve DOMAIN PROBLEM PLAN CERT [NODES]\n       check DOMAIN PROBLEM CERT\n       run DOMAIN PROBLEM PLAN\n       list DOMAIN PROBLEM\n";
+    "usage: solve DOMAIN PROBLEM PLAN CERT [NODES]\n       check DOMAIN PROBLEM CERT [PLAN]\n       run DOMAIN PROBLEM PLAN\n       list DOMAIN PROBLEM\n";
 
 /// The words of a process, the program's name first, and no environment.
 #[derive(Drop)]

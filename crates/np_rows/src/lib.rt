@@ -4,15 +4,19 @@
 #[cfg(test)]
 mod check;
 #[cfg(test)]
+mod check_beside;
+#[cfg(test)]
 mod command_line;
 #[cfg(test)]
 mod faults;
 #[cfg(test)]
-mod forms;
-#[cfg(test)]
 mod list;
 #[cfg(test)]
 mod list_edges;
+#[cfg(test)]
+mod order;
+#[cfg(test)]
+mod pairs;
 #[cfg(test)]
 mod run;
 #[cfg(test)]

@@ -1,16 +1,7 @@
 //! Answers of `run`, worked by hand.
-use crate::trial::{expect, expect_file, expect_run, shelf};
-use np_io::{MemoryShelf, MemorySink};
-use std::process::Abort;
-
-/// Each `inc` raises x by 3 at a cost of 2, each `dec` lowers it by 1 at a cost of 1, while it is at least 1.
-const COUNTER: &str = "(define (domain counter) (:functions (x) (c))
-(:action inc :parameters () :effect (and (increase (x) 3) (increase (c) 2)))
-(:action dec :parameters () :precondition (>= (x) 1) :effect (and (decrease (x) 1) (increase (c) 1))))";
-
-/// Its problem: x is 0, and exactly 4 is wanted.
-const FOUR: &str = "(define (problem p) (:domain counter) (:init (= (x) 0)) (:goal (= (x) 4))
- (:metric minimize (c)))";
+use crate::pairs::{COUNTER, FOUR};
+use crate::trial::{expect_file, expect_run, expect_run_here, shelf};
+use np_io::MemoryShelf;
 
 const UNKNOWN: &str = "Refused: plan 1:1 unknown step\n";
 
@@ -67,7 +58,7 @@ fn each_file_is_fetched_once(rt: HostRuntime) {
     let mut shelf = shelf(&rt, COUNTER.as_bytes(), FOUR.as_bytes());
     let plan = "(inc) (inc) (dec) (dec)";
     shelf.set("plan", plan.as_bytes()).expect(&rt, "memory");
-    expect_said(&rt, &mut shelf, "Plan, cost 6\n", 0);
+    expect_run_here(&rt, &mut shelf, "Plan, cost 6\n", 0);
     assert_eq!(&rt; shelf.calls(), 3);
     expect_file(&rt, &shelf, "d", Some(COUNTER));
     expect_file(&rt, &shelf, "p", Some(FOUR));
@@ -268,28 +259,21 @@ fn faulty_pairs_are_told(rt: HostRuntime) {
     }
 }
 
-/// Calls `run` on this shelf.
-fn expect_said(rt: &(impl Abort + AllocGlobal), shelf: &mut MemoryShelf, answer: &str, status: u8) {
-    let mut sink = MemorySink::new(rt.alloc());
-    let words = ["run", "d", "p", "plan"];
-    expect(rt, &words, shelf, &mut sink, answer, status);
-}
-
 /// A fault of the domain is told before the problem is fetched, and one of the pair before the plan is.
 #[test]
 fn faults_come_in_order(rt: HostRuntime) {
     let mut shelf = MemoryShelf::new(rt.alloc());
-    expect_said(&rt, &mut shelf, "Refused: cannot read domain\n", 4);
+    expect_run_here(&rt, &mut shelf, "Refused: cannot read domain\n", 4);
     shelf.set("d", b"(").expect(&rt, "memory");
-    expect_said(&rt, &mut shelf, "Refused: domain 1:2 syntax\n", 3);
+    expect_run_here(&rt, &mut shelf, "Refused: domain 1:2 syntax\n", 3);
     shelf.set("d", COUNTER.as_bytes()).expect(&rt, "memory");
-    expect_said(&rt, &mut shelf, "Refused: cannot read problem\n", 4);
+    expect_run_here(&rt, &mut shelf, "Refused: cannot read problem\n", 4);
     shelf.set("p", b"()").expect(&rt, "memory");
-    expect_said(&rt, &mut shelf, "Refused: problem 1:2 syntax\n", 3);
+    expect_run_here(&rt, &mut shelf, "Refused: problem 1:2 syntax\n", 3);
     let lacking = b"(define (problem p) (:domain counter))";
     shelf.set("p", lacking).expect(&rt, "memory");
-    expect_said(&rt, &mut shelf, "Refused: problem 1:1 section missing\n", 3);
+    expect_run_here(&rt, &mut shelf, "Refused: problem 1:1 section missing\n", 3);
     shelf.set("p", FOUR.as_bytes()).expect(&rt, "memory");
-    expect_said(&rt, &mut shelf, "Refused: cannot read plan\n", 4);
+    expect_run_here(&rt, &mut shelf, "Refused: cannot read plan\n", 4);
     assert_eq!(&rt; shelf.calls(), 11);
 }

@@ -46,6 +46,15 @@ pub fn shelf(rt: &(impl Abort + AllocGlobal), domain: &[u8], problem: &[u8]) -> 
     shelf
 }
 
+/// The domain `d` and its problem with these sections.
+pub fn pair_of(rt: &(impl Abort + AllocGlobal), domain: &str, problem: &str) -> (String, String) {
+    let domain = format!(in rt.alloc(); "(define (domain d) {domain})").expect(rt, "memory");
+    let problem = format!(in rt.alloc(); "(define (problem p) (:domain d) {problem})").expect(
+        rt, "memory",
+    );
+    (domain, problem)
+}
+
 /// The shelf of the first example.
 pub fn steps_shelf(rt: &(impl Abort + AllocGlobal)) -> MemoryShelf {
     shelf(rt, STEPS.as_bytes(), THREE.as_bytes())
@@ -96,19 +105,6 @@ pub fn expect_solve_within(
     expect(rt, &texts, shelf, &mut sink, answer, status)
 }
 
-/// The same over a sink whose first call fails after so many bytes.
-pub fn expect_cut_answer(
-    rt: &(impl Abort + AllocGlobal),
-    kept: u64,
-    shelf: &mut MemoryShelf,
-    answer: &str,
-    status: u8,
-) {
-    let mut sink = MemorySink::new(rt.alloc());
-    sink.fail(0, kept).expect(rt, "memory");
-    expect(rt, SOLVE, shelf, &mut sink, answer, status);
-}
-
 /// Whether this text is under a name, or nothing.
 fn is_under(shelf: &MemoryShelf, name: &str, want: Option<&str>) -> bool {
     match (shelf.get(name), want) {
@@ -141,6 +137,30 @@ pub fn expect_check(
     );
 }
 
+/// Checks what is under `cert` beside what is under `plan`, and compares its status and what it pushed.
+pub fn expect_check_beside(
+    rt: &(impl Abort + AllocGlobal),
+    shelf: &mut MemoryShelf,
+    answer: &str,
+    status: u8,
+) {
+    let mut sink = MemorySink::new(rt.alloc());
+    let words = ["check", "d", "p", "cert", "plan"];
+    expect(rt, &words, shelf, &mut sink, answer, status);
+}
+
+/// Runs what is under `plan`, and compares its status and what it pushed.
+pub fn expect_run_here(
+    rt: &(impl Abort + AllocGlobal),
+    shelf: &mut MemoryShelf,
+    answer: &str,
+    status: u8,
+) {
+    let mut sink = MemorySink::new(rt.alloc());
+    let words = ["run", "d", "p", "plan"];
+    expect(rt, &words, shelf, &mut sink, answer, status);
+}
+
 /// Calls `run` on these three texts, and compares its status and what it pushed.
 pub fn expect_run(
     rt: &(impl Abort + AllocGlobal),
@@ -151,9 +171,7 @@ pub fn expect_run(
     let (domain, problem, plan) = texts;
     let mut shelf = shelf(rt, domain.as_bytes(), problem.as_bytes());
     shelf.set("plan", plan.as_bytes()).expect(rt, "memory");
-    let mut sink = MemorySink::new(rt.alloc());
-    let words = ["run", "d", "p", "plan"];
-    expect(rt, &words, &mut shelf, &mut sink, answer, status);
+    expect_run_here(rt, &mut shelf, answer, status);
 }
 
 /// Calls `list` on these two texts, and compares its status and what it pushed.

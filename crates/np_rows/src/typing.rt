@@ -1,4 +1,5 @@
 //! Typing, by what `run` says of pairs: each rule that can be broken, and what is taken leniently.
+use crate::pairs::{DELIVERY, TWO_PARCELS};
 use crate::trial::expect_run;
 use std::process::Abort;
 
@@ -424,37 +425,6 @@ const MISSING: &[(&str, &str)] = &[
     ("\n(define (problem p) (:goal (p)) (:objects a a))", "2:1"),
 ];
 
-/// The domain of the parcels.
-const DELIVERY: &str = "(define (domain delivery)
- (:requirements :typing :numeric-fluents :negative-preconditions :equality)
- (:types truck parcel - thing thing place - object)
- (:predicates (at ?x - thing ?p - place) (in ?x - parcel ?t - truck) (station ?p - place))
- (:functions (distance ?a ?b - place) - number (fuel ?t - truck) (carried ?t - truck)
-  (capacity ?t - truck) (burn ?t - truck) (weight ?x - parcel) (total-cost) - number)
- (:action drive :parameters (?t - truck ?a ?b - place)
-  :precondition (and (at ?t ?a) (not (= ?a ?b)) (>= (fuel ?t) (* (burn ?t) (distance ?a ?b))))
-  :effect (and (not (at ?t ?a)) (at ?t ?b) (decrease (fuel ?t) (* (burn ?t) (distance ?a ?b)))
-   (increase (total-cost) (distance ?a ?b))))
- (:action refuel :parameters (?t - truck ?a - place)
-  :precondition (and (at ?t ?a) (station ?a))
-  :effect (and (increase (fuel ?t) 5) (increase (total-cost) 3)))
- (:action load :parameters (?x - parcel ?t - truck ?a - place)
-  :precondition (and (at ?x ?a) (at ?t ?a) (<= (+ (carried ?t) (weight ?x)) (capacity ?t)))
-  :effect (and (not (at ?x ?a)) (in ?x ?t) (increase (carried ?t) (weight ?x)) (increase (total-cost) 1)))
- (:action unload :parameters (?x - parcel ?t - truck ?a - place)
-  :precondition (and (in ?x ?t) (at ?t ?a))
-  :effect (and (not (in ?x ?t)) (at ?x ?a) (decrease (carried ?t) (weight ?x)) (increase (total-cost) 1))))";
-
-/// The problem of two parcels.
-const PARCELS: &str = "(define (problem two-parcels) (:domain delivery)
- (:objects t1 - truck p1 p2 - parcel a b c - place)
- (:init (at t1 a) (at p1 a) (at p2 b) (station b)
-  (= (distance a b) 4) (= (distance b a) 4) (= (distance b c) 6) (= (distance c b) 6)
-  (= (distance a c) 9) (= (distance c a) 9) (= (fuel t1) 2.5) (= (burn t1) 0.5)
-  (= (carried t1) 0) (= (capacity t1) 3) (= (weight p1) 1.5) (= (weight p2) 2))
- (:goal (and (at p1 c) (at p2 c)))
- (:metric minimize (total-cost)))";
-
 /// Plans for the parcels, with the answers and their statuses. The first one drives 22, refuels twice for 6, and loads and unloads for 4.
 const DELIVERIES: &[(&str, &str, u8)] = &[
     (
@@ -521,6 +491,6 @@ fn leniencies_are_taken(rt: HostRuntime) {
 #[test]
 fn parcels_are_delivered(rt: HostRuntime) {
     for (plan, answer, status) in DELIVERIES {
-        expect_run(&rt, (DELIVERY, PARCELS, plan), answer, *status);
+        expect_run(&rt, (DELIVERY, TWO_PARCELS, plan), answer, *status);
     }
 }

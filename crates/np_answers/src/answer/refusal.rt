@@ -30,9 +30,7 @@ pub enum Refusal {
     Task(TaskReason),
     /// The task of the files has no flat task, for this reason at this spot.
     AtSpot(SpotReason, Text),
-    /// The pair of files isn't of the form that is built so far.
-    PairNotBuilt,
-    /// The certificate isn't of the form that is built so far.
+    /// The certificate has a proof, or a reason other than expansion, and such ones aren't judged yet.
     CertificateNotBuilt,
 }
 
@@ -99,7 +97,6 @@ impl Refusal {
                 let reason = spot_reason_text(reason);
                 format!(in alloc; "Refused: {}: {}\n", reason, spot.as_str())
             }
-            Refusal::PairNotBuilt => String::from_str(alloc, "Refused: not built yet\n"),
             Refusal::CertificateNotBuilt => String::from_str(alloc, "Refused: not built yet\n"),
         }
     }

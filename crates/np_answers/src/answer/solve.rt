@@ -9,12 +9,12 @@ use std::alloc::{AllocError, Global};
 /// An answer of `solve`.
 #[derive(Clone, Copy)]
 pub enum SolveAnswer {
-    /// The plan that was put is a cheapest one, of this cost.
-    Optimal(usize),
+    /// The plan that was put is a cheapest one, of this cost. Costs aren't scaled.
+    Optimal(u64),
     /// There is no plan.
     Unsolvable,
     /// So many states were expanded, and no plan costs less than the second number.
-    Spent(u32, u32),
+    Spent(u32, u64),
 }
 
 impl SolveAnswer {
@@ -45,7 +45,7 @@ impl SolveAnswer {
 }
 
 /// The text of an answer after a spent budget.
-fn spent_text(alloc: Global, nodes: u32, bound: u32) -> Result<String, AllocError>
+fn spent_text(alloc: Global, nodes: u32, bound: u64) -> Result<String, AllocError>
     ensures { IfOk result (λ text. string_bytes text ≡ solve_text (answer.Spent nodes bound)) }
 {
     let mut buffer = Buffer::new();

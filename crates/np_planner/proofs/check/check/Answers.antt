@@ -1,12 +1,19 @@
-use Rattle.std.proofs.Common.{ℕ, List, inr, subst}
-use Rattle.np_answers.specs.CommandSteps.{told_check}
-use Rattle.np_planner.specs.CheckSteps.{IsJudged}
-use Rattle.np_planner.proofs.CheckEnds.{judged}
+use Rattle.std.proofs.Common.{ap}
+use Rattle.np_answers.specs.CommandSteps.{told_check, told_plan}
+use Rattle.np_planner.proofs.CheckEnds.{uncertified, judged, checked}
 use Rattle.np_planner.proofs.check.check.Goals as goal
 
-pub returns-in-Ok-read_whole : goal.returns-in-Ok-read_whole
-returns-in-Ok-read_whole g c =
-    inr (judged (told_check c.args.command.now) (g.S.Shelf.seen c.args.shelf.now) (g.S.Shelf.seen c.read_inputs.new.shelf) (g.S.Shelf.seen c.read_whole.new.shelf) c.in-Ok.pair.domain c.in-Ok.pair.problem
-    c.in-Ok.ensures.pair c.in-Ok.ensures.untouched c.in-Ok-read_whole.ensures.untouched c.in-Ok-read_whole.bytes.items c.in-Ok-read_whole.ensures.held
-    c.flat.result.now c.flat.ensures c.judge.result
-    (subst (λ (xs : List ℕ). IsJudged c.flat.result.now xs c.judge.result) c.as_slice.ensures.value c.judge.ensures))
+pub returns-in-Err-held_certificate : goal.returns-in-Err-held_certificate
+returns-in-Err-held_certificate g c =
+    uncertified (told_check c.args.command.now) (g.S.Shelf.seen c.args.shelf.now) (g.S.Shelf.seen c.held_flat.new.shelf) (g.S.Shelf.seen c.held_certificate.new.shelf) c.in-Ok.pair.task c.in-Ok.pair.flat
+    c.in-Ok.ensures c.in-Err-held_certificate.answer c.in-Err-held_certificate.ensures
+
+pub returns-in-None : goal.returns-in-None
+returns-in-None g c =
+    judged (told_check c.args.command.now) (g.S.Shelf.seen c.args.shelf.now) (g.S.Shelf.seen c.held_flat.new.shelf) (g.S.Shelf.seen c.held_certificate.new.shelf) c.in-Ok.pair.task c.in-Ok.pair.flat
+    c.in-Ok.ensures c.in-Ok-held_certificate.certificate c.in-Ok-held_certificate.ensures (ap told_plan c.in-None.is) c.judge.result c.judge.ensures
+
+pub returns : goal.returns
+returns g c =
+    checked (told_check c.args.command.now) (g.S.Shelf.seen c.args.shelf.now) (g.S.Shelf.seen c.held_flat.new.shelf) (g.S.Shelf.seen c.held_certificate.new.shelf) (g.S.Shelf.seen c.check_plan.new.shelf)
+    c.in-Ok.pair.task c.in-Ok.pair.flat c.in-Ok.ensures c.in-Ok-held_certificate.certificate c.in-Ok-held_certificate.ensures c.in-Some.plan.now (ap told_plan c.in-Some.is) c.check_plan.result c.check_plan.ensures

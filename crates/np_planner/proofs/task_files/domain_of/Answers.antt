@@ -2,7 +2,7 @@ use Rattle.std.proofs.Common.{Err, refl, sym, subst}
 use Rattle.np_syntax.specs.Domains.{IsDomain, domain_text, domain_marks}
 use Rattle.np_answers.specs.declared.answer.File.TheVariants as file
 use Rattle.np_answers.specs.declared.answer.Answer.{Answer}
-use Rattle.np_planner.specs.RunSteps.{IsNotSpelled}
+use Rattle.np_planner.specs.TaskSteps.{IsNotSpelled}
 use Rattle.np_planner.proofs.TaskEnds.{not_spelled}
 use Rattle.np_planner.proofs.task_files.domain_of.Goals as goal
 

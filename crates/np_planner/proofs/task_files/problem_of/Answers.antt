@@ -3,7 +3,7 @@ use Rattle.np_problem.specs.ProblemText.{IsProblem}
 use Rattle.np_problem.specs.Problems.{problem_text, problem_marks}
 use Rattle.np_answers.specs.declared.answer.File.TheVariants as file
 use Rattle.np_answers.specs.declared.answer.Answer.{Answer}
-use Rattle.np_planner.specs.RunSteps.{IsNotSpelled}
+use Rattle.np_planner.specs.TaskSteps.{IsNotSpelled}
 use Rattle.np_planner.proofs.TaskEnds.{not_spelled}
 use Rattle.np_planner.proofs.task_files.problem_of.Goals as goal
 

@@ -1,0 +1,9 @@
+pub mod Claims
+pub mod Judging
+pub mod NamedBounds
+pub mod NamedEnds
+pub mod NamedPlans
+pub mod PlanEnds
+pub mod Refusals
+pub mod SpentBudgets
+pub mod Works

@@ -1,0 +1,6 @@
+(define (problem over-the-river)
+  (:domain toll)
+  (:objects here there - place)
+  (:init (at here) (= (toll here there) 2.5))
+  (:goal (at there))
+  (:metric minimize (total-cost)))
