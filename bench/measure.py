@@ -28,18 +28,26 @@ def build():
         sys.exit(f"{sys.argv[0]}: the program could not be built")
 
 
-def run(words, folder, program=PROGRAM):
-    """Runs the program itself, or another one, in the folder."""
-    with tempfile.TemporaryFile() as out, tempfile.NamedTemporaryFile("r") as peak:
+def run(words, folder, program=PROGRAM, text=""):
+    """Runs the program itself, or another one, in the folder, on this text as its standard input."""
+    with tempfile.TemporaryFile() as given, tempfile.TemporaryFile() as out, tempfile.NamedTemporaryFile("r") as peak:
+        given.write(text.encode("ascii"))
+        given.seek(0)
         timer = [TIMER, "-o", peak.name, "-f", "%M"] if os.path.exists(TIMER) else []
         start = time.monotonic()
-        child = subprocess.Popen([*timer, program, *words], cwd=folder, stdout=out)
+        child = subprocess.Popen([*timer, program, *words], cwd=folder, stdin=given, stdout=out)
         _, ended, used = os.wait4(child.pid, 0)
         seconds = time.monotonic() - start
         child.returncode = os.waitstatus_to_exitcode(ended)
         out.seek(0)
         peak_kib = int(peak.read().split()[-1]) if timer else used.ru_maxrss
         return Run(out.read().decode(), child.returncode, seconds, used.ru_utime + used.ru_stime, peak_kib)
+
+
+def least(times, words, folder, program=PROGRAM, text=""):
+    """The run of the least processor time, of so many that say the same."""
+    runs = [run(words, folder, program, text) for _ in range(times)]
+    return min(runs, key=lambda ran: ran.processor)
 
 
 def write(folder, name, text):

@@ -1,6 +1,6 @@
-"""Measures the readers of the whole grammar: seconds and peak memory for a domain and a problem of 16 MB, and of a tenth.
+"""Measures the two readers alone: seconds and peak memory for a domain and a problem of 16 MB, and of a tenth.
 
-No command reads by them yet. So it has the toolchain build a small program on a copy of the crates, in a folder of its
+Each command does more than read. So it has the toolchain build a small program on a copy of the crates, in a folder of its
 own, which is taken away again. The program reads one file and ends with 0 where it is read.
 """
 
