@@ -23,7 +23,7 @@ pub(crate) fn steps_to(
             break;
         };
         steps.push(step)?;
-        at = parent;
+        at = parent as usize;
     }
     steps.reverse();
     Ok(steps)

@@ -19,8 +19,8 @@ use std::alloc::{AllocError, Global};
 /// A state that was reached.
 #[derive(Debug, Drop)]
 pub struct Node {
-    /// The state before and the step that leads from it. `None` for the start alone.
-    pub parent: Option<(usize, u32)>,
+    /// The number of the state before and the step that leads from it. `None` for the start alone.
+    pub parent: Option<(u32, u32)>,
     /// The cost of the run that the parents give.
     pub cost: u64,
     pub judged: Judged,
@@ -80,7 +80,7 @@ fn found<P: Space>(
     alloc: Global,
     space: &mut P,
     state: &State<P::C>,
-    parent: Option<(usize, u32)>,
+    parent: Option<(u32, u32)>,
     cost: u64,
 ) -> Result<Node, AllocError>
     requires { IsReachedWithin (P.next_of space.old) (P.first space.old) (2 ^ 24) (value_of P.C.value state.now) }
@@ -111,7 +111,7 @@ fn lower(
     nodes: &mut Vec<Node>,
     list: &mut OpenList,
     at: usize,
-    parent: (usize, u32),
+    parent: (u32, u32),
     cost: u64,
 ) -> Result<(), AllocError>
     requires { IsNarrowAt nodes.old.items at }
@@ -155,7 +155,7 @@ fn take_step<P: Space>(
     space: &mut P,
     tree: &mut Tree<P::C>,
     list: &mut OpenList,
-    at: usize,
+    at: u32,
     step: u32,
 ) -> Result<(), AllocError>
     requires tree { IsTree (P.next_of space.old) (P.goal space.old) (P.first space.old) (P.fits space.old) tree.old.states tree.old.nodes.items (is_in list.old) (Some at) }
@@ -168,10 +168,10 @@ fn take_step<P: Space>(
     ensures less { OnOk result (IsKnownAfter (P.next_of space.old) tree.old.states at → IsNoMore tree.old.states tree.new.states (weight (is_in list.old) tree.old.nodes.items) (weight (is_in list.new) tree.new.nodes.items)) }
     ensures space { IsSameSpace P.first P.goal P.count P.next_of P.fits space.old space.new }
 {
-    let Some((state, cost)) = space.next(alloc, tree.states.get(at), step)? else {
+    let Some((state, cost)) = space.next(alloc, tree.states.get(at as usize), step)? else {
         return Ok(());
     };
-    let cost = tree.nodes[at].cost + cost;
+    let cost = tree.nodes[at as usize].cost + cost;
     let (number, is_new) = tree.states.intern(state)?;
     if !is_new {
         return lower(&mut tree.nodes, list, number, (at, step), cost);
@@ -186,7 +186,39 @@ fn take_step<P: Space>(
     add(&mut tree.nodes, list, node)
 }
 
-/// Takes note of what each step leads to.
+/// A number in 32 bits. Where it has more, that is said as out of memory.
+fn number_of(at: usize) -> Result<u32, AllocError>
+    ensures { IfOk result (λ number. number ≡ at) }
+{
+    if at > u32::MAX as usize {
+        return Err(AllocError);
+    }
+    Ok(at as u32)
+}
+
+/// Takes note of what each step leads to from the state of this number.
+fn expand_from<P: Space>(
+    alloc: Global,
+    space: &mut P,
+    tree: &mut Tree<P::C>,
+    list: &mut OpenList,
+    at: u32,
+) -> Result<(), AllocError>
+    requires tree { IsTree (P.next_of space.old) (P.goal space.old) (P.first space.old) (P.fits space.old) tree.old.states tree.old.nodes.items (is_in list.old) (Some at) }
+    requires under_way { IsUnderWay (P.next_of space.old) (P.goal space.old) tree.old.states tree.old.nodes.items (is_in list.old) at 0 }
+    requires few { expanded_count tree.old.nodes.items ≤ 2 ^ 24 }
+    ensures tree { OnOk result (IsTree (P.next_of space.new) (P.goal space.new) (P.first space.new) (P.fits space.new) tree.new.states tree.new.nodes.items (is_in list.new) None) }
+    ensures count { OnOk result (expanded_count tree.new.nodes.items ≡ expanded_count tree.old.nodes.items) }
+    ensures less { OnOk result (IsKnownAfter (P.next_of space.old) tree.old.states at → IsNoMore tree.old.states tree.new.states (weight (is_in list.old) tree.old.nodes.items) (weight (is_in list.new) tree.new.nodes.items)) }
+    ensures space { IsSameSpace P.first P.goal P.count P.next_of P.fits space.old space.new }
+{
+    for step in 0..space.steps() {
+        take_step(alloc, space, tree, list, at, step)?;
+    }
+    Ok(())
+}
+
+/// Takes note of what each step leads to. A state whose number has more than 32 bits can't be told as a parent: for it there is no memory.
 pub(crate) fn expand<P: Space>(
     alloc: Global,
     space: &mut P,
@@ -202,8 +234,5 @@ pub(crate) fn expand<P: Space>(
     ensures less { OnOk result (IsKnownAfter (P.next_of space.old) tree.old.states at → IsNoMore tree.old.states tree.new.states (weight (is_in list.old) tree.old.nodes.items) (weight (is_in list.new) tree.new.nodes.items)) }
     ensures space { IsSameSpace P.first P.goal P.count P.next_of P.fits space.old space.new }
 {
-    for step in 0..space.steps() {
-        take_step(alloc, space, tree, list, at, step)?;
-    }
-    Ok(())
+    expand_from(alloc, space, tree, list, number_of(at)?)
 }

@@ -4,7 +4,7 @@ use Rattle.np_search.specs.Outcomes.{expanded_count}
 use Rattle.np_search.specs.Spaces.{IsSameSpace}
 use Rattle.np_search.specs.Weights.{weight, IsNoMore}
 use Rattle.np_search.specs.Trees.{IsTree, IsUnderWay, IsKnownAfter}
-use Rattle.np_search.proofs.tree.expand.Given as goal
+use Rattle.np_search.proofs.tree.expand_from.Given as goal
 
 abbrev pub invariant-loop-step : goal.invariant-loop-step
 invariant-loop-step g l = record {

@@ -3,7 +3,7 @@ use Rattle.np_search.specs.Opens.{is_in}
 use Rattle.np_search.specs.Weights.{weight}
 use Rattle.np_search.proofs.Spaces.{same_refl, same_trans, known_now, no_more_trans}
 use Rattle.np_search.proofs.Closing.{tree_closed}
-use Rattle.np_search.proofs.tree.expand.Goals as goal
+use Rattle.np_search.proofs.tree.expand_from.Goals as goal
 
 pub loop-step-init : goal.loop-step-init
 loop-step-init g c = record {
