@@ -21,7 +21,7 @@ use Rattle.np_commands.proofs.PlanEnds.{plan_by_names, no_goal_by_names, stuck_b
 
 module _ (flat : Parts) (c : Certificate) where
   -- the claim of a valid certificate is true of the plans of each task with this flat task
-  valid_claim : (claim : Limit) → c.claim ≡ claim → IsValid flat c → (task : TaskParts) → IsTask task → IsFlatTaskOf task flat → IsValidClaim task flat c claim
+  pub valid_claim : (claim : Limit) → c.claim ≡ claim → IsValid flat c → (task : TaskParts) → IsTask task → IsFlatTaskOf task flat → IsValidClaim task flat c claim
   valid_claim claim claim_is valid task well of = record {
     claim_is = claim_is;
     valid = valid;

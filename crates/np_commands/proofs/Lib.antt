@@ -1,8 +1,14 @@
 pub mod Claims
+pub mod Cuts
 pub mod Judging
 pub mod NamedBounds
 pub mod NamedEnds
 pub mod NamedPlans
+pub mod OneAnswer
+pub mod OneFault
+pub mod OnePlan
+pub mod OnePlanText
+pub mod OneReason
 pub mod PlanEnds
 pub mod Refusals
 pub mod SpentBudgets

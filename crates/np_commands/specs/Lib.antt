@@ -1,5 +1,6 @@
 pub mod Checking
 pub mod FlatTasks
+pub mod Laws
 pub mod Listing
 pub mod Plans
 pub mod Running

@@ -3,6 +3,7 @@
 
 mod check;
 mod flat;
+mod laws;
 mod list;
 mod plan;
 mod run;
@@ -10,6 +11,7 @@ mod solve;
 
 pub use check::{certificate_of, judge, judge_with_plan};
 pub use flat::flat_task;
+pub use laws::{one_answer, one_reason};
 pub use list::list_flat;
 pub use plan::steps_of;
 pub use run::run_steps;

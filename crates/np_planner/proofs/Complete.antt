@@ -26,7 +26,7 @@ use Rattle.np_planner.specs.RightAnswers.{IsRight, IsRightTo}
 use Rattle.np_planner.specs.Promises.{Call, IsAnswered, NoneRose, names_in, HadNoFault}
 use Rattle.np_planner.specs.Completeness.{TellsFlat, HoldsNamed, TellsGiven, IsNotWide, TellsPlan, IsComplete}
 use Rattle.np_planner.proofs.Unrefused.{one_content, same_task, task_there, flat_there, certificate_there, plan_there}
-use Rattle.np_planner.proofs.OnePlan.{one_plan}
+use Rattle.np_commands.proofs.OnePlan.{one_plan}
 
 -- the status is one that these are, or memory ran out
 abbrev IsOf : (ℕ → Type 0) → ℕ → Type 0
@@ -106,7 +106,7 @@ module _ (call : Call) where
         inr (certificate_there call.before tells.files tells.told command.certificate tells.given.of_flat.certificate tells.given.of_flat.written call.after healthy.reads.1.1.0 answer without.of_flat)
     checks answer (inr (inr (inl without))) =
         inr (named_there without.of_flat.name without.of_flat.named _
-        (same_task call.before tells.files tells.told command.inputs tells.given.domain tells.given.problem tells.given.pair without.domain without.problem without.pair.both) answer without.of_flat.without)
+        (same_task call.before tells.files tells.told command.inputs tells.given.domain tells.given.problem tells.given.pair.both without.domain without.problem without.pair.both) answer without.of_flat.without)
     checks answer (inr (inr (inr is))) = checked answer is
 
   module _ (command : Run) (tells : TellsPlan command call.before) (healthy : HadNoFault call (running command)) where
@@ -136,7 +136,7 @@ module _ (call : Call) where
       run_by steps held answer is = absurd is
 
     same_of : (OfTask : TaskParts → Type 0) (other : HoldsTaskFor command.inputs call.before OfTask) → task_of other.domain other.problem ≡ task_of tells.plan.domain tells.plan.problem
-    same_of OfTask other = same_task call.before tells.files tells.told command.inputs tells.plan.domain tells.plan.problem tells.plan.pair other.domain other.problem other.pair.both
+    same_of OfTask other = same_task call.before tells.files tells.told command.inputs tells.plan.domain tells.plan.problem tells.plan.pair.both other.domain other.problem other.pair.both
 
     runs : (answer : Answer) → IsRightTo (running command) call.before call.after answer → IsOf Judges (status_of answer)
     runs answer (inl without) =

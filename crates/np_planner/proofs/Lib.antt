@@ -2,12 +2,14 @@ pub mod CheckEnds
 pub mod Checkable
 pub mod Coming
 pub mod Complete
+pub mod Exactness
 pub mod GivenEnds
 pub mod ListEnds
-pub mod OnePlan
+pub mod OneRefusal
 pub mod Promises
 pub mod RunEnds
 pub mod Shelves
 pub mod SolveEnds
 pub mod TaskEnds
 pub mod Unrefused
+pub mod Untouched

@@ -10,6 +10,7 @@ use Rattle.np_cert.specs.declared.certificate.Certificate.{Certificate}
 use Rattle.np_answers.specs.declared.answer.solve.SolveAnswer.{SolveAnswer}
 use Rattle.np_answers.specs.declared.answer.solve.SolveAnswer.TheVariants.{Optimal, Unsolvable, Spent}
 use Rattle.np_answers.specs.declared.answer.check.CheckAnswer.TheVariants.{Yes, YesPlan, No}
+use Rattle.np_answers.specs.declared.answer.refusal.Refusal.{Refusal}
 use Rattle.np_answers.specs.declared.answer.Answer.{Answer}
 use Rattle.np_answers.specs.declared.answer.Answer.TheVariants.{Usage, CannotRead, Refused, Solved, Checked, Ran, Listed, CannotWrite, OutOfMemory}
 use Rattle.np_answers.specs.Words.{Inputs, Solve, Check, Run, Command, solving, checking, running, listing}
@@ -18,11 +19,12 @@ use Rattle.np_planner.specs.SolveAnswers.{IsRightSolve}
 use Rattle.np_planner.specs.CheckAnswers.{IsTrueBeside}
 use Rattle.np_planner.specs.RightAnswers.{IsRight, IsRightTo}
 use Rattle.np_answers.specs.Output.{IsAnsweredBy}
-use Rattle.np_planner.specs.Promises.{Call, call_of, Says, IsAnswered, IsTold, IsSolveTold, IsOptimal, HasNoPlan, IsBudgetSpent, WhenSolving, IsPushCut, IsOutOfMemory, Status, status_named, Promise, KeepsPromise, KeepsItsWord, IsCheckTold, IsYesBeside}
+use Rattle.np_planner.specs.Promises.{Call, call_of, Says, IsAnswered, IsTold, IsSolveTold, IsOptimal, HasNoPlan, IsBudgetSpent, WhenSolving, IsRefused, IsPushCut, IsOutOfMemory, Status, status_named, Promise, KeepsPromise, KeepsItsWord, IsCheckTold, IsYesBeside}
 use Rattle.np_planner.specs.Promises as kind
 use Rattle.np_answers.proofs.Apart.{AreApart, solving_apart}
 use Rattle.np_planner.proofs.Checkable.{checkable, plan_checkable}
 use Rattle.np_planner.proofs.Coming.{comes, plan_comes}
+use Rattle.np_planner.proofs.Untouched.{untouched}
 
 -- a right answer to this command was said whole
 abbrev Kept : Call → Command → Answer → Type 0
@@ -32,6 +34,10 @@ module _ (call : Call) where
   module _ (answer : Answer) (says : Says call answer) where
     told : (command : Command) → IsRightTo command call.before call.after answer → IsTold call command answer
     told command right = record { says = says; right = right }
+
+  -- a refusal was said, and it changes nothing
+  refused : (command : Command) (refusal : Refusal) → Says call (Refused refusal) → IsRightTo command call.before call.after (Refused refusal) → IsRefused call command
+  refused command refusal says right = record { refusal = refusal; told = told (Refused refusal) says command right; untouched = untouched call.before call.after command refusal right }
 
   -- memory ran out, and that was said
   forgot : (command : Command) → call.command ≡ Some command → Says call OutOfMemory → IsRightTo command call.before call.after OutOfMemory → IsOutOfMemory call
@@ -49,7 +55,7 @@ module _ (call : Call) where
 
     solved : (answer : Answer) → Says call answer → IsRightTo (solving command) call.before call.after answer → Kept call (solving command) answer
     solved (CannotRead f) says right = (f, told (CannotRead f) says (solving command) right)
-    solved (Refused refusal) says right = (refusal, told (Refused refusal) says (solving command) right)
+    solved (Refused refusal) says right = refused (solving command) refusal says right
     solved (CannotWrite f) says right = inl (f, told (CannotWrite f) says (solving command) right)
     solved OutOfMemory says right = forgot (solving command) words_are says right
     solved (Solved answer) says (inr right) = own answer says right
@@ -72,7 +78,7 @@ module _ (call : Call) where
 
     checked : (answer : Answer) → Says call answer → IsRightTo (checking command) call.before call.after answer → Kept call (checking command) answer
     checked (CannotRead f) says right = (f, told (CannotRead f) says (checking command) right)
-    checked (Refused refusal) says right = (refusal, told (Refused refusal) says (checking command) right)
+    checked (Refused refusal) says right = refused (checking command) refusal says right
     checked OutOfMemory says right = forgot (checking command) words_are says right
     checked (Checked (Yes claim)) says (inr (inr (inr right))) = yes_alone (task_of right.1.domain right.1.problem) right.1.flat right.1.certificate claim (record { says = says; right = right.1; untouched = right.0 }) command.plan right.1.true_answer
     checked (Checked (YesPlan cost)) says (inr (inr (inr right))) = yes_beside (task_of right.1.domain right.1.problem) right.1.flat right.1.certificate cost (record { says = says; right = right.1; untouched = right.0 }) command.plan right.1.true_answer
@@ -88,7 +94,7 @@ module _ (call : Call) where
   module _ (command : Run) (words_are : call.command ≡ Some (running command)) where
     ran : (answer : Answer) → Says call answer → IsRightTo (running command) call.before call.after answer → Kept call (running command) answer
     ran (CannotRead f) says right = (f, told (CannotRead f) says (running command) right)
-    ran (Refused refusal) says right = (refusal, told (Refused refusal) says (running command) right)
+    ran (Refused refusal) says right = refused (running command) refusal says right
     ran OutOfMemory says right = forgot (running command) words_are says right
     ran (Ran (Goal cost)) says (inr (inr right)) = (cost, record { says = says; right = right.1; untouched = right.0 })
     ran (Ran NoGoal) says (inr (inr right)) = record { end = NoGoal; other = tt; told = record { says = says; right = right.1; untouched = right.0 } }
@@ -103,7 +109,7 @@ module _ (call : Call) where
   module _ (inputs : Inputs) (words_are : call.command ≡ Some (listing inputs)) where
     listed : (answer : Answer) → Says call answer → IsRightTo (listing inputs) call.before call.after answer → Kept call (listing inputs) answer
     listed (CannotRead f) says right = (f, told (CannotRead f) says (listing inputs) right)
-    listed (Refused refusal) says right = (refusal, told (Refused refusal) says (listing inputs) right)
+    listed (Refused refusal) says right = refused (listing inputs) refusal says right
     listed OutOfMemory says right = forgot (listing inputs) words_are says right
     listed (Listed text) says (inr right) = record { text = text; says = says; right = right.1; untouched = right.0 }
     listed answer says (inl (inl (inl without))) = absurd without

@@ -59,7 +59,7 @@ module _ (shelf : SeenShelf) (f : Files) (told : shelf.files ≡ Some f) where
       (sym (subst (λ (x : Option Files). IsHeld x name one) told first) ∙ subst (λ (x : Option Files). IsHeld x name other) told second)
 
   -- a file that is short isn't too long
-  not_longer : (name bytes : List ℕ) (limit : ℕ) → IsHeld shelf.files name bytes → length bytes ≤ limit → IsLonger shelf.files name limit → ⊥
+  pub not_longer : (name bytes : List ℕ) (limit : ℕ) → IsHeld shelf.files name bytes → length bytes ≤ limit → IsLonger shelf.files name limit → ⊥
   not_longer name bytes limit held short longer =
       let found : (there : List ℕ) × (f name ≡ Some there) × (limit < length there) = subst (λ (x : Option Files). IsLonger x name limit) told longer in
       let same : found.0 ≡ bytes = same_Some found.0 bytes (sym found.1 ∙ subst (λ (x : Option Files). IsHeld x name bytes) told held) in
@@ -73,26 +73,29 @@ module _ (shelf : SeenShelf) (f : Files) (told : shelf.files ≡ Some f) where
     not_unspelled there also refusal is =
         is.none a (subst (λ (b : List ℕ). IsSpelled IsValue spelling b a) (one_content name bytes there held also) spelled)
 
+    pub value_not_refused : (new : SeenShelf) (refusal : Refusal) → IsWithoutValue IsValue spelling file name shelf new (Refused refusal) → ⊥
+    value_not_refused new (TooLong g) is = not_longer name bytes (2 ^ 24) held short is.2
+    value_not_refused new refusal is = not_unspelled is.1.bytes is.1.read.held refusal is.1.unspelled
+
     value_there : (new : SeenShelf) → (Rose (shelf.read_faults name) (new.read_faults name) → ⊥) → (answer : Answer) → IsWithoutValue IsValue spelling file name shelf new answer → status_of answer ≡ 7
     value_there new healthy (CannotRead g) is = absurd (healthy is.1.rose)
-    value_there new healthy (Refused (TooLong g)) is = absurd (not_longer name bytes (2 ^ 24) held short is.2)
-    value_there new healthy (Refused refusal) is = absurd (not_unspelled is.1.bytes is.1.read.held refusal is.1.unspelled)
+    value_there new healthy (Refused refusal) is = absurd (value_not_refused new refusal is)
     value_there new healthy OutOfMemory is = refl
     value_there new healthy answer is = absurd is
 
   -- ---- both files
 
-  module _ (inputs : Inputs) (d : Domain) (p : Problem) (pair : HoldsTask inputs shelf d p) where
+  module _ (inputs : Inputs) (d : Domain) (p : Problem) (here : HoldsBoth inputs shelf d p) where
     -- the files hold one domain and one problem
     pub same_domain : (e : Domain) (q : Problem) → HoldsBoth inputs shelf e q → e ≡ d
     same_domain e q both =
-        let same = one_content inputs.domain both.domain_held.bytes pair.both.domain_held.bytes both.domain_held.read.held pair.both.domain_held.read.held in
-        one_domain pair.both.domain_held.bytes e d (subst (λ (b : List ℕ). IsReadDomain b e) same both.domain_held.one_value) pair.both.domain_held.one_value
+        let same = one_content inputs.domain both.domain_held.bytes here.domain_held.bytes both.domain_held.read.held here.domain_held.read.held in
+        one_domain here.domain_held.bytes e d (subst (λ (b : List ℕ). IsReadDomain b e) same both.domain_held.one_value) here.domain_held.one_value
 
     pub same_problem : (e : Domain) (q : Problem) → HoldsBoth inputs shelf e q → q ≡ p
     same_problem e q both =
-        let same = one_content inputs.problem both.problem_held.bytes pair.both.problem_held.bytes both.problem_held.read.held pair.both.problem_held.read.held in
-        one_problem pair.both.problem_held.bytes q p (subst (λ (b : List ℕ). IsReadProblem b q) same both.problem_held.one_value) pair.both.problem_held.one_value
+        let same = one_content inputs.problem both.problem_held.bytes here.problem_held.bytes both.problem_held.read.held here.problem_held.read.held in
+        one_problem here.problem_held.bytes q p (subst (λ (b : List ℕ). IsReadProblem b q) same both.problem_held.one_value) here.problem_held.one_value
 
     -- so they stand for one task
     pub same_task : (e : Domain) (q : Problem) → HoldsBoth inputs shelf e q → task_of e q ≡ task_of d p
@@ -101,19 +104,52 @@ module _ (shelf : SeenShelf) (f : Files) (told : shelf.files ≡ Some f) where
         let second : q ≡ p = same_problem e q both in
         λ i. task_of (first i) (second i)
 
-    -- which has no fault of typing
+    -- which has one flat task
+    pub same_flat : (flat : Parts) → IsFlatTaskOf (task_of d p) flat → (e : Domain) (q : Problem) → HoldsBoth inputs shelf e q → (other : Parts) → IsFlatTaskOf (task_of e q) other → other ≡ flat
+    same_flat flat is_flat e q both other is_other =
+        let one : is_other.bound ≡ is_flat.bound = same_right is_other.bound is_flat.bound (sym is_other.binds ∙ ap bind_task (same_task e q both) ∙ is_flat.binds) in
+        same_right other flat (sym is_other.scales ∙ ap scale_task one ∙ is_flat.scales)
+
+  -- files that stand for a task aren't refused
+  module _ (inputs : Inputs) (d : Domain) (p : Problem) (pair : HoldsTask inputs shelf d p) where
+    -- they have no fault of typing
     well_typed : (e : Domain) (q : Problem) → HoldsBoth inputs shelf e q → (fault : TypeFault) → first_of (all_faults e q) ≡ Some fault → ⊥
     well_typed e q both fault first =
-        let one : e ≡ d = same_domain e q both in
-        let two : q ≡ p = same_problem e q both in
+        let one : e ≡ d = same_domain inputs d p pair.both e q both in
+        let two : q ≡ p = same_problem inputs d p pair.both e q both in
         let none : all_faults e q ≡ [] = (λ i. all_faults (one i) (two i)) ∙ pair.well_formed in
         no_first fault (sym (ap first_of none) ∙ first)
 
+    typed_not_refused : (new : SeenShelf) (refusal : Refusal) → IsIllTyped inputs shelf new (Refused refusal) → ⊥
+    typed_not_refused new (Typing source place why) is = well_typed is.1.domain is.1.problem is.1.both _ is.1.first
+    typed_not_refused new refusal is = is
+
     typed_there : (new : SeenShelf) (answer : Answer) → IsIllTyped inputs shelf new answer → status_of answer ≡ 7
-    typed_there new (Refused (Typing source place why)) is = absurd (well_typed is.1.domain is.1.problem is.1.both _ is.1.first)
+    typed_there new (Refused refusal) is = absurd (typed_not_refused new refusal is)
     typed_there new OutOfMemory is = refl
-    typed_there new (Refused refusal) is = absurd is
     typed_there new answer is = absurd is
+
+    pub task_not_refused : (new : SeenShelf) (refusal : Refusal) → IsWithoutTask inputs shelf new (Refused refusal) → ⊥
+    task_not_refused new refusal (inl domain) =
+        let held = pair.both.domain_held in
+        value_not_refused IsDomain domain_text file.Domain inputs.domain held.bytes held.read.held held.read.within d held.spelled new refusal domain
+    task_not_refused new refusal (inr (inl second)) =
+        let held = pair.both.problem_held in
+        value_not_refused IsProblem problem_text file.Problem inputs.problem held.bytes held.read.held held.read.within p held.spelled new refusal second.1
+    task_not_refused new refusal (inr (inr ill)) = typed_not_refused new refusal ill
+
+    module _ (flat : Parts) (is_flat : IsFlatTaskOf (task_of d p) flat) where
+      bound_there : (task : TaskParts) → task ≡ task_of d p → (refusal : Refusal) → IsTaskReason task refusal → ⊥
+      bound_there task same refusal (inl un) =
+          right_is_no_fault is_flat.bound un.fault (sym is_flat.binds ∙ sym (ap bind_task same) ∙ un.unbound)
+      bound_there task same refusal (inr un) =
+          let one : un.bound ≡ is_flat.bound = same_right un.bound is_flat.bound (sym un.bound_is ∙ ap bind_task same ∙ is_flat.binds) in
+          right_is_no_fault flat un.fault (sym is_flat.scales ∙ sym (ap scale_task one) ∙ un.unscaled)
+
+      pub flat_not_refused : (new : SeenShelf) (refusal : Refusal) → IsWithoutFlat inputs shelf new (Refused refusal) → ⊥
+      flat_not_refused new refusal (inl without) = task_not_refused new refusal without
+      flat_not_refused new refusal (inr refused) =
+          bound_there _ (same_task inputs d p pair.both refused.1.domain refused.1.problem refused.1.pair.both) refusal refused.1.of_task
 
     module _ (new : SeenShelf) (domain_read : Rose (shelf.read_faults inputs.domain) (new.read_faults inputs.domain) → ⊥) (problem_read : Rose (shelf.read_faults inputs.problem) (new.read_faults inputs.problem) → ⊥) where
       -- a task that is there isn't refused
@@ -127,28 +163,15 @@ module _ (shelf : SeenShelf) (f : Files) (told : shelf.files ≡ Some f) where
       task_there answer (inr (inr ill)) = typed_there new answer ill
 
       module _ (flat : Parts) (is_flat : IsFlatTaskOf (task_of d p) flat) where
-        bound_there : (task : TaskParts) → task ≡ task_of d p → (refusal : Refusal) → IsTaskReason task refusal → ⊥
-        bound_there task same refusal (inl un) =
-            right_is_no_fault is_flat.bound un.fault (sym is_flat.binds ∙ sym (ap bind_task same) ∙ un.unbound)
-        bound_there task same refusal (inr un) =
-            let one : un.bound ≡ is_flat.bound = same_right un.bound is_flat.bound (sym un.bound_is ∙ ap bind_task same ∙ is_flat.binds) in
-            right_is_no_fault flat un.fault (sym is_flat.scales ∙ sym (ap scale_task one) ∙ un.unscaled)
-
         flat_task_there : (task : TaskParts) → task ≡ task_of d p → (answer : Answer) → IsNotFlat task answer → status_of answer ≡ 7
-        flat_task_there task same (Refused refusal) is = absurd (bound_there task same refusal is)
+        flat_task_there task same (Refused refusal) is = absurd (bound_there flat is_flat task same refusal is)
         flat_task_there task same OutOfMemory is = refl
         flat_task_there task same answer is = absurd is
 
         -- a flat task that is there isn't refused
         pub flat_there : (answer : Answer) → IsWithoutFlat inputs shelf new answer → status_of answer ≡ 7
         flat_there answer (inl without) = task_there answer without
-        flat_there answer (inr refused) = flat_task_there _ (same_task refused.1.domain refused.1.problem refused.1.pair.both) answer refused.1.of_task
-
-    -- there is one flat task
-    pub same_flat : (flat : Parts) → IsFlatTaskOf (task_of d p) flat → (e : Domain) (q : Problem) → HoldsBoth inputs shelf e q → (other : Parts) → IsFlatTaskOf (task_of e q) other → other ≡ flat
-    same_flat flat is_flat e q both other is_other =
-        let one : is_other.bound ≡ is_flat.bound = same_right is_other.bound is_flat.bound (sym is_other.binds ∙ ap bind_task (same_task e q both) ∙ is_flat.binds) in
-        same_right other flat (sym is_other.scales ∙ ap scale_task one ∙ is_flat.scales)
+        flat_there answer (inr refused) = flat_task_there _ (same_task inputs d p pair.both refused.1.domain refused.1.problem refused.1.pair.both) answer refused.1.of_task
 
   -- ---- the certificate
 
@@ -158,7 +181,7 @@ module _ (shelf : SeenShelf) (f : Files) (told : shelf.files ≡ Some f) where
         one_certificate written.bytes other c (subst (λ (b : List ℕ). Spells b other) (one_content name also.bytes written.bytes also.held written.held) also.of_bytes.spelled) written.of_bytes.spelled
 
     -- nothing in its bytes is a reason to refuse it
-    not_refused : (bytes : List ℕ) → IsHeld shelf.files name bytes → (refusal : Refusal) → IsCertificateReason bytes refusal → ⊥
+    pub not_refused : (bytes : List ℕ) → IsHeld shelf.files name bytes → (refusal : Refusal) → IsCertificateReason bytes refusal → ⊥
     not_refused bytes held (Syntax file.Certificate place) is =
         is.none c (subst (λ (b : List ℕ). Spells b c) (one_content name written.bytes bytes written.held held) written.of_bytes.spelled)
     not_refused bytes held CertificateNotBuilt is =
@@ -175,10 +198,10 @@ module _ (shelf : SeenShelf) (f : Files) (told : shelf.files ≡ Some f) where
   -- ---- the plan
 
   module _ (task : TaskParts) (name : List ℕ) (steps : List Step) (held : HoldsPlan task name shelf steps) where
-    spelled_at : (bytes : List ℕ) → IsHeld shelf.files name bytes → SpellsPlan task bytes steps
+    pub spelled_at : (bytes : List ℕ) → IsHeld shelf.files name bytes → SpellsPlan task bytes steps
     spelled_at bytes there = subst (λ (b : List ℕ). SpellsPlan task b steps) (one_content name held.bytes bytes held.held there) held.of_bytes
 
-    plan_not_refused : (bytes : List ℕ) → IsHeld shelf.files name bytes → (refusal : Refusal) → IsPlanReason task bytes refusal → ⊥
+    pub plan_not_refused : (bytes : List ℕ) → IsHeld shelf.files name bytes → (refusal : Refusal) → IsPlanReason task bytes refusal → ⊥
     plan_not_refused bytes there (TooLong file.Plan) is = is.none steps (spelled_at bytes there)
     plan_not_refused bytes there (Syntax file.Plan place) is = is.none steps (spelled_at bytes there)
     plan_not_refused bytes there (NumberWide file.Plan place) is = is.none steps (spelled_at bytes there)

@@ -1,5 +1,6 @@
 pub mod CheckAnswers
 pub mod Completeness
+pub mod Exactness
 pub mod GivenFiles
 pub mod GivenSteps
 pub mod ListAnswers

@@ -172,9 +172,11 @@ pub record IsUsage (call : Call) : Type 0 where
   pub says : Says call Usage
   pub untouched : call.after ≡ call.before
 
--- a refusal was pushed, and what the files hold is the reason
-abbrev pub IsRefused : Call → Command → Type 0
-IsRefused call command = (refusal : Refusal) × IsTold call command (Refused refusal)
+-- a refusal was pushed, what the files hold is the reason, and nothing was done
+pub record IsRefused (call : Call) (command : Command) : Type 0 where
+  pub refusal : Refusal
+  pub told : IsTold call command (Refused refusal)
+  pub untouched : call.after ≡ call.before
 
 -- a read failed, and that was said
 abbrev pub HadReadFault : Call → Command → Type 0
