@@ -40,13 +40,7 @@ use Rattle.np_planner.specs.RightAnswers.{IsRight, IsRightTo}
 use Rattle.np_planner.specs.Promises.{Call, Says, IsAnswered, NoneRose, names_in, HadNoFault}
 use Rattle.np_planner.specs.Exactness.{IsOfFiles, IsExact}
 use Rattle.np_planner.proofs.Unrefused.{one_content, same_task, same_flat, same_certificate, task_there, flat_there, task_not_refused, flat_not_refused, not_refused, certificate_there, plan_not_refused, plan_there}
-use Rattle.np_planner.proofs.OneRefusal.{IsIt, no_task, no_flat, no_certificate, no_plan}
-
--- what comes before there is a task is no such answer as this
-no_answer : {X : Type 0} → ⊥ ⊎ ((X × ⊥) ⊎ ⊥) → ⊥
-no_answer (inl a) = a
-no_answer (inr (inl a)) = a.1
-no_answer (inr (inr a)) = a
+use Rattle.np_planner.proofs.OneRefusal.{IsIt, no_answer, no_task, no_flat, no_certificate, no_plan}
 
 -- ---- a list of steps that is run
 

@@ -41,6 +41,12 @@ use Rattle.np_planner.proofs.Unrefused.{one_content, not_longer, value_not_refus
 abbrev pub IsIt : Answer → Answer → Type 0
 IsIt expected answer = (answer ≡ expected) ⊎ (status_of answer ≡ 7)
 
+-- before there is a task nothing but refusals, faults of reads and memory running out is answered
+pub no_answer : {X : Type 0} → ⊥ ⊎ ((X × ⊥) ⊎ ⊥) → ⊥
+no_answer (inl a) = a
+no_answer (inr (inl a)) = a.1
+no_answer (inr (inr a)) = a
+
 -- ---- one file
 
 module _ {A : Type 0} (IsValue : A → Type 0) (spelling : A → List Lexeme) (file : File) where
@@ -133,11 +139,6 @@ module _ (shelf : SeenShelf) (f : Files) (told : shelf.files ≡ Some f) where
       task_unread g (inl a) = domain_read a.1.rose
       task_unread g (inr (inl a)) = problem_read a.1.1.rose
       task_unread g (inr (inr a)) = a
-
-      no_answer : {X : Type 0} → ⊥ ⊎ ((X × ⊥) ⊎ ⊥) → ⊥
-      no_answer (inl a) = a
-      no_answer (inr (inl a)) = a.1
-      no_answer (inr (inr a)) = a
 
       -- where the files stand for no task, the refusal is the answer
       pub no_task : IsWithoutTask inputs shelf shelf (Refused r) → (answer : Answer) → IsWithoutTask inputs shelf new answer → IsIt (Refused r) answer
