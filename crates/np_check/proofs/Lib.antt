@@ -7,3 +7,4 @@ pub mod Faults
 mod StepNumbers
 mod PlanRuns
 mod OnePlanEnd
+pub mod Filing

@@ -5,3 +5,4 @@ pub mod First
 pub mod Steps
 pub mod PlanEnds
 pub mod Walks
+pub mod Watched

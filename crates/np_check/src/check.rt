@@ -10,6 +10,7 @@ use crate::first::FirstEntries;
 use crate::fitting::is_fitting;
 use crate::scratch::Scratch;
 use crate::verdict::Verdict;
+use crate::watched::{Watched, row_at};
 use np_cert::{Certificate, Entry, Limit, Why};
 use np_count::Proof;
 use np_flat::Flat;
@@ -87,8 +88,9 @@ fn first_fault(
     ensures { IfOk result (λ fault. MatchOption fault (AreGood flat.now certificate.now (length certificate.now.entries)) (IsVerdict flat.now certificate.now)) }
 {
     let mut scratch = Scratch::new(alloc, flat.parts().steps.len())?;
+    let watched = Watched::new(alloc, flat)?;
     for number in 0..certificate.entries.len() {
-        let fault = fault_at(alloc, flat, certificate, first, number, &mut scratch)?;
+        let fault = fault_at(alloc, &watched, certificate, first, number, &mut scratch)?;
         if fault.is_some() {
             return Ok(fault);
         }
@@ -99,7 +101,7 @@ fn first_fault(
 /// The fault of the entry of this number, where those before it are good.
 fn fault_at(
     alloc: Global,
-    flat: &Flat,
+    flat: &Watched<'_>,
     certificate: &Certificate,
     first: &FirstEntries<'_>,
     number: usize,
@@ -123,7 +125,7 @@ fn fault_at(
 /// Whether an entry is justified. None is by a proof or a table, until these are built.
 fn is_justified(
     alloc: Global,
-    flat: &Flat,
+    flat: &Watched<'_>,
     certificate: &Certificate,
     first: &FirstEntries<'_>,
     entry: &Entry,
@@ -132,7 +134,7 @@ fn is_justified(
     requires { first.now ≡ certificate.now.entries }
     ensures { IfOk result (λ good. IsTrue good ↔ IsJustified flat.now certificate.now.proofs certificate.now.entries entry.now) }
 {
-    if !is_fitting(flat.parts(), entry) {
+    if !is_fitting(flat.task().parts(), entry) {
         return Ok(false);
     }
     match entry.why {
@@ -145,7 +147,7 @@ fn is_justified(
 /// Whether the bound of an entry that fits is 0, or the entry is expanded.
 fn is_by_expansion(
     alloc: Global,
-    flat: &Flat,
+    flat: &Watched<'_>,
     first: &FirstEntries<'_>,
     entry: &Entry,
     scratch: &mut Scratch,
@@ -159,10 +161,11 @@ fn is_by_expansion(
     is_expanded(alloc, flat, first, entry, scratch)
 }
 
-/// Whether the state of an entry that fits isn't a goal, and each step bounds its bound.
+/// Whether the state of an entry that fits isn't a goal, and each step bounds its bound. Only steps that can be applicable
+/// are looked at.
 fn is_expanded(
     alloc: Global,
-    flat: &Flat,
+    flat: &Watched<'_>,
     first: &FirstEntries<'_>,
     entry: &Entry,
     scratch: &mut Scratch,
@@ -170,11 +173,38 @@ fn is_expanded(
     requires fitting { IsFitting flat.now entry.now }
     ensures { IfOk result (λ good. IsTrue good ↔ IsExpanded flat.now first.now entry.now) }
 {
-    if flat.is_goal(&entry.state) {
+    let task = flat.task();
+    if task.is_goal(&entry.state) {
         return Ok(false);
     }
-    for step in 0..flat.parts().steps.len() {
-        if !is_bounded(alloc, flat, first, entry, step, scratch)? {
+    let table = flat.rows();
+    let needing_none = row_at(table, task.parts().facts.len());
+    if !are_bounded(alloc, task, first, entry, needing_none, scratch)? {
+        return Ok(false);
+    }
+    for fact in entry.state.facts.as_slice() {
+        let needing = row_at(table, *fact as usize);
+        if !are_bounded(alloc, task, first, entry, needing, scratch)? {
+            return Ok(false);
+        }
+    }
+    Ok(true)
+}
+
+/// Whether each of these steps bounds the bound of an entry that fits.
+fn are_bounded(
+    alloc: Global,
+    flat: &Flat,
+    first: &FirstEntries<'_>,
+    entry: &Entry,
+    steps: &[u32],
+    scratch: &mut Scratch,
+) -> Result<bool, AllocError>
+    requires fitting { IsFitting flat.now entry.now }
+    ensures { IfOk result (λ good. IsTrue good ↔ All (IsBounded flat.now first.now entry.now) steps.now) }
+{
+    for step in steps {
+        if !is_bounded(alloc, flat, first, entry, *step as usize, scratch)? {
             return Ok(false);
         }
     }
@@ -182,7 +212,8 @@ fn is_expanded(
 }
 
 /// Whether the bound of an entry that fits is at most what the step of this number costs with the bound of the state
-/// after it, or the step isn't applicable.
+/// after it, or the step isn't applicable. A number that is
+/// no step's bounds nothing.
 fn is_bounded(
     alloc: Global,
     flat: &Flat,
@@ -192,10 +223,12 @@ fn is_bounded(
     scratch: &mut Scratch,
 ) -> Result<bool, AllocError>
     requires fitting { IsFitting flat.now entry.now }
-    requires number { step < length flat.now.steps }
     ensures { IfOk result (λ good. IsTrue good ↔ IsBounded flat.now first.now entry.now step) }
 {
     let steps = flat.parts().steps.as_slice();
+    if step >= steps.len() {
+        return Ok(true);
+    }
     let number = step as u32;
     if !flat.applicable(number, &entry.state) {
         return Ok(true);

@@ -14,6 +14,7 @@ mod plan_end;
 mod scratch;
 mod verdict;
 mod walk;
+mod watched;
 
 pub use check::check_certificate;
 pub use laws::{claim_bounds, fault_is_no_yes, one_plan_end, one_verdict};
