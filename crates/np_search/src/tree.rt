@@ -19,11 +19,11 @@ use std::alloc::{AllocError, Global};
 /// A state that was reached.
 #[derive(Debug, Drop)]
 pub struct Node {
-    /// The number of the state before and the step that leads from it. `None` for the start alone.
-    pub parent: Option<(u32, u32)>,
     /// The cost of the run that the parents give.
     pub cost: u64,
     pub judged: Judged,
+    /// The number of the state before and the step that leads from it. `None` for the start alone.
+    pub parent: Option<(u32, u32)>,
     pub expanded: bool,
 }
 
