@@ -1,0 +1,6 @@
+pub mod Tests
+pub mod Keeps
+pub mod Plans
+pub mod Weights
+pub mod Counts
+pub mod Common

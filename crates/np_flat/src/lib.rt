@@ -22,6 +22,7 @@ pub use limits::{
     CHANGE_SIZE, COEFFICIENT_SIZE, CONSTANT_SIZE, COST_SIZE, MOST_FACTS, MOST_STEPS, MOST_SUBGOALS,
     MOST_TERMS, MOST_VALUES, VALUE_SIZE,
 };
+pub use net::net_terms;
 pub use numbers::put_in;
 pub use parts::{FlatStep, Form, Parts, Subgoal};
 pub use state::FlatState;
