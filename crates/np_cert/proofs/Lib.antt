@@ -5,4 +5,4 @@ pub mod ReadingLexemes
 pub mod ReadingNumbers
 pub mod ReadingStarts
 pub mod ReadingTexts
-pub mod ValidForms
+pub mod Thin

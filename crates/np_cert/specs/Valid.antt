@@ -1,7 +1,10 @@
--- When an entry is justified, and a certificate valid. These definitions are this project's own. Counting proofs and tables aren't built yet, so no proof
--- is valid, and no entry is justified by a proof or a table.
+-- When an entry is justified, and a certificate valid. These definitions are this project's own. Tables aren't built yet, so no entry is justified by one.
 use Rattle.std.specs.Prelude.{◌≡◌, ℕ, ◌+◌, ◌^◌, ◌<◌, ◌≤◌, nat_le, nat_lt, Bool, true, false, ◌⊎◌, List, [], ◌∷◌, All, Some, slice_get, IsTrue, if◌then◌else◌}
+use Rattle.std.specs.Option.{option_map_or}
+use Rattle.np_space.specs.declared.bound.Bound.{Bound}
+use Rattle.np_space.specs.declared.bound.Bound.TheVariants as bound
 use Rattle.np_count.specs.declared.proof.Proof.{Proof}
+use Rattle.np_count.specs.Bounds.{is_proof, proof_bound}
 use Rattle.np_flat.specs.declared.state.FlatState.{FlatState}
 use Rattle.np_flat.specs.declared.parts.Parts.{Parts}
 use Rattle.np_flat.specs.Same.{same_state}
@@ -54,10 +57,23 @@ pub record IsExpanded (task : Parts) (entries : List Entry) (e : Entry) : Type 0
   pub no_goal : is_goal task e.state ≡ false
   pub steps : (n : ℕ) (after : FlatState) → next task n e.state ≡ Some after → IsTrue (at_most e.bound (after_cost (cost_of task n) (bound_at entries after)))
 
--- the reason of an entry supports its bound: by expansion, the bound is 0 or the entry is expanded
+-- a bound as a limit
+abbrev pub limit_of : Bound → Limit
+limit_of (bound.AtLeast n) = Number n
+limit_of bound.NoPlan = Absent
+
+-- whether a counting proof has a bound at the state of an entry, and the bound of the entry is at most that
+abbrev pub is_met_by : Parts → Entry → Proof → Bool
+is_met_by task e proof = option_map_or (λ b. at_most e.bound (limit_of b)) (proof_bound task proof e.state) false
+
+-- whether there is a proof of this number, and it does so
+abbrev pub is_proved : Parts → List Proof → Entry → ℕ → Bool
+is_proved task proofs e number = option_map_or (is_met_by task e) (slice_get proofs number) false
+
+-- the reason of an entry supports its bound: by expansion, the bound is 0 or the entry is expanded; by a proof, the proof bounds it
 abbrev pub Supports : Parts → List Proof → List Entry → Entry → Why → Type 0
 Supports task proofs entries e why.Expanded = (e.bound ≡ Number 0) ⊎ IsExpanded task entries e
-Supports task proofs entries e (why.Proof number) = ⊥
+Supports task proofs entries e (why.Proof number) = IsTrue (is_proved task proofs e number)
 Supports task proofs entries e (why.Table numbers) = ⊥
 
 -- an entry is justified: it fits, and its reason supports its bound
@@ -65,9 +81,9 @@ pub record IsJustified (task : Parts) (proofs : List Proof) (entries : List Entr
   pub fitting : IsFitting task e
   pub supported : Supports task proofs entries e e.why
 
--- a counting proof is valid
+-- a counting proof is valid, as far as that doesn't depend on a state
 abbrev pub IsValidProof : Parts → Proof → Type 0
-IsValidProof task proof = ⊥
+IsValidProof task proof = IsTrue (is_proof task proof)
 
 -- the entry of this number has the state of an earlier one
 pub record IsRepeated (entries : List Entry) (number : ℕ) : Type 0 where

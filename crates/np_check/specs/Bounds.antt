@@ -1,6 +1,7 @@
 -- What a valid certificate says of every plan.
 use Rattle.std.specs.Prelude.{ℕ, List, IsTrue}
 use Rattle.np_flat.specs.declared.parts.Parts.{Parts}
+use Rattle.np_flat.specs.Flats.{IsFlat}
 use Rattle.np_flat.specs.Plans.{Leads, cost_sum}
 use Rattle.np_cert.specs.declared.certificate.Limit.{Limit}
 use Rattle.np_cert.specs.declared.certificate.Limit.TheVariants.{Number}
@@ -14,4 +15,4 @@ Bounds task limit = (numbers : List ℕ) → Leads task task.start numbers → I
 
 -- a valid certificate's claim bounds every plan
 abbrev pub ClaimBounds : Type 0
-ClaimBounds = (task : Parts) (c : Certificate) → IsValid task c → Bounds task c.claim
+ClaimBounds = (task : Parts) (c : Certificate) → IsFlat task → IsValid task c → Bounds task c.claim

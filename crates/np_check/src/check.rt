@@ -1,26 +1,31 @@
 //! The check of a certificate: the proofs in their order, then the entries in theirs, then the claim.
-ghost use Rattle.std.specs.Prelude.{◌≡◌, ◌+◌, ◌<◌, ◌↔◌, ◌⊎◌, length, All, IsTrue, IfOk, MatchOption};
+ghost use Rattle.std.specs.Prelude.{◌≡◌, ◌+◌, ◌<◌, ◌↔◌, ◌⊎◌, length, All, IsTrue, IfOk, MatchOption, None, Some, slice_get};
 ghost use Rattle.np_cert.specs.declared.certificate.Limit.TheVariants.{Number};
-ghost use Rattle.np_cert.specs.Valid.{at_most, bound_at, is_small, IsFitting, IsExpanded, IsJustified, Supports, IsValidProof};
+ghost use Rattle.np_cert.specs.Valid.{at_most, bound_at, is_small, is_met_by, is_proved, IsFitting, IsExpanded, IsJustified, Supports, IsValidProof};
 ghost use Rattle.np_check.specs.Verdicts.{AreGood, IsBadProof, IsVerdict};
+ghost use Rattle.np_check.specs.Bounds.{Bounds};
 ghost use Rattle.np_check.specs.Steps.{IsBounded};
+ghost use Rattle.np_check.specs.declared.verdict.Verdict.TheVariants.{Holds};
 
-use crate::bounds::is_within;
+use crate::bounds::{is_within, limit_of};
 use crate::first::FirstEntries;
 use crate::fitting::is_fitting;
 use crate::scratch::Scratch;
 use crate::verdict::Verdict;
 use crate::watched::{Watched, row_at};
 use np_cert::{Certificate, Entry, Limit, Why};
-use np_count::Proof;
+use np_count::{Proof, proof_ok, proof_value};
 use np_flat::Flat;
 use std::alloc::{AllocError, Global};
 
-/// Checks a certificate: whether it is valid for the task, or its first fault. `Memory` comes where memory runs out, and says
-/// nothing of the certificate.
+/// Checks a certificate: whether it is valid for the task, and then its claim bounds every plan, or its first fault. `Memory`
+/// comes where memory runs out, and says nothing of the certificate.
 pub fn check_certificate(alloc: Global, flat: &Flat, certificate: &Certificate) -> Verdict
     ensures verdict { IsVerdict flat.now certificate.now result }
+    ensures bounds { (result ≡ Holds) → Bounds flat.now certificate.now.claim }
 {
+    // Its parts are those of a flat task, of which a valid claim is true.
+    let _ = flat.parts();
     match verdict_of(alloc, flat, certificate) {
         Ok(verdict) => verdict,
         Err(_) => Verdict::Memory,
@@ -62,18 +67,11 @@ fn first_bad_proof(flat: &Flat, proofs: &[Proof]) -> Option<usize>
     ensures { MatchOption result (All (IsValidProof flat.now) proofs.now) (IsBadProof flat.now proofs.now) }
 {
     for number in 0..proofs.len() {
-        if !is_valid_proof(flat, &proofs[number]) {
+        if !proof_ok(flat, &proofs[number]) {
             return Some(number);
         }
     }
     None
-}
-
-/// Whether a counting proof is valid. None is, until counting proofs are built.
-fn is_valid_proof(flat: &Flat, proof: &Proof) -> bool
-    ensures { IsTrue result ↔ IsValidProof flat.now proof.now }
-{
-    false
 }
 
 /// The first fault of the entries.
@@ -122,7 +120,7 @@ fn fault_at(
     Ok(None)
 }
 
-/// Whether an entry is justified. None is by a proof or a table, until these are built.
+/// Whether an entry is justified. None is by a table, until tables are built.
 fn is_justified(
     alloc: Global,
     flat: &Watched<'_>,
@@ -131,7 +129,8 @@ fn is_justified(
     entry: &Entry,
     scratch: &mut Scratch,
 ) -> Result<bool, AllocError>
-    requires { first.now ≡ certificate.now.entries }
+    requires entries { first.now ≡ certificate.now.entries }
+    requires proofs { All (IsValidProof flat.now) certificate.now.proofs }
     ensures { IfOk result (λ good. IsTrue good ↔ IsJustified flat.now certificate.now.proofs certificate.now.entries entry.now) }
 {
     if !is_fitting(flat.task().parts(), entry) {
@@ -139,8 +138,43 @@ fn is_justified(
     }
     match entry.why {
         Why::Expanded => is_by_expansion(alloc, flat, first, entry, scratch),
-        Why::Proof(_) => Ok(false),
+        Why::Proof(number) => Ok(is_proved(flat.task(), certificate, entry, number)),
         Why::Table(_) => Ok(false),
+    }
+}
+
+/// Whether the proof of this number bounds an entry that fits.
+fn is_proved(flat: &Flat, certificate: &Certificate, entry: &Entry, number: u128) -> bool
+    requires proofs { All (IsValidProof flat.now) certificate.now.proofs }
+    requires fitting { IsFitting flat.now entry.now }
+    ensures { result ≡ is_proved flat.now certificate.now.proofs entry.now number }
+{
+    match proof_at(certificate.proofs.as_slice(), number) {
+        Some(proof) => is_met_by(flat, entry, proof),
+        None => false,
+    }
+}
+
+/// The proof of this number, where there is one.
+fn proof_at(proofs: &[Proof], number: u128) -> Option<&Proof>
+    ensures { MatchOption result (slice_get proofs.now number ≡ None) (λ proof. slice_get proofs.now number ≡ Some proof.now) }
+{
+    if number < proofs.len() as u128 {
+        proofs.get(number as usize)
+    } else {
+        None
+    }
+}
+
+/// Whether a valid proof has a bound at the state of an entry that fits, and the bound of the entry is at most that.
+fn is_met_by(flat: &Flat, entry: &Entry, proof: &Proof) -> bool
+    requires proof { IsValidProof flat.now proof.now }
+    requires fitting { IsFitting flat.now entry.now }
+    ensures { result ≡ is_met_by flat.now entry.now proof.now }
+{
+    match proof_value(flat, proof, &entry.state) {
+        Some(bound) => entry.bound.at_most(limit_of(bound)),
+        None => false,
     }
 }
 

@@ -4,7 +4,10 @@ use Rattle.np_model.specs.declared.task.Step.{Step}
 use Rattle.np_model.specs.declared.task.TaskParts.{TaskParts}
 use Rattle.np_model.specs.Tasks.{IsTask}
 use Rattle.np_flat.specs.declared.parts.Parts.{Parts}
+use Rattle.np_flat.specs.Flats.{IsFlat}
+use Rattle.np_bind.proofs.BoundIsBound.{bound_is_bound}
 use Rattle.np_scale.specs.Scaling.{IsFlatTaskOf}
+use Rattle.np_scale.proofs.FlatIsFlat.{flat_is_flat}
 use Rattle.np_cert.specs.declared.certificate.Limit.{Limit}
 use Rattle.np_cert.specs.declared.certificate.Limit.TheVariants.{Number}
 use Rattle.np_cert.specs.declared.certificate.Certificate.{Certificate}
@@ -19,13 +22,17 @@ use Rattle.np_commands.specs.Steps.{IsCompared}
 use Rattle.np_commands.proofs.Claims.{claim_by_names}
 use Rattle.np_commands.proofs.PlanEnds.{plan_by_names, no_goal_by_names, stuck_by_names}
 
+-- the flat task of a task is one
+is_flat : (task : TaskParts) (flat : Parts) → IsTask task → IsFlatTaskOf task flat → IsFlat flat
+is_flat task flat well of = flat_is_flat of.bound flat (bound_is_bound task of.bound well of.binds) of.scales
+
 module _ (flat : Parts) (c : Certificate) where
   -- the claim of a valid certificate is true of the plans of each task with this flat task
   pub valid_claim : (claim : Limit) → c.claim ≡ claim → IsValid flat c → (task : TaskParts) → IsTask task → IsFlatTaskOf task flat → IsValidClaim task flat c claim
   valid_claim claim claim_is valid task well of = record {
     claim_is = claim_is;
     valid = valid;
-    true_claim = subst (λ (l : Limit). IsTrueClaim l task) claim_is (claim_by_names task flat well of c.claim (claim_bounds flat c valid));
+    true_claim = subst (λ (l : Limit). IsTrueClaim l task) claim_is (claim_by_names task flat well of c.claim (claim_bounds flat c (is_flat task flat well of) valid));
   }
 
   -- so the answer is yes

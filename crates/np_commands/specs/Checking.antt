@@ -1,5 +1,5 @@
 -- What `check` says of a task, of a certificate, and of a plan.
-use Rattle.std.specs.Prelude.{◌≡◌, ℕ, ⊤, pos, List}
+use Rattle.std.specs.Prelude.{◌≡◌, ℕ, ⊤, pos, true, false, List}
 use Rattle.np_lex.specs.declared.token.Place.{Place}
 use Rattle.np_lex.specs.Tokens.{items_of}
 use Rattle.np_read.specs.Faults.{IsFirstFault}
@@ -16,7 +16,7 @@ use Rattle.np_run.specs.RunAnswers.{IsAnswer}
 use Rattle.np_cert.specs.declared.certificate.Limit.{Limit}
 use Rattle.np_cert.specs.declared.certificate.Limit.TheVariants.{Number, Absent}
 use Rattle.np_cert.specs.declared.certificate.Certificate.{Certificate}
-use Rattle.np_cert.specs.Text.{IsWritten, Spells, IsThin}
+use Rattle.np_cert.specs.Text.{IsWritten, Spells, has_table}
 use Rattle.np_cert.specs.Text as certificate_text
 use Rattle.np_cert.specs.Valid.{IsValid}
 use Rattle.np_check.specs.declared.verdict.Verdict.TheVariants.{BadProof, TwiceEntry, BadEntry, BadClaim}
@@ -36,26 +36,26 @@ use Rattle.np_answers.specs.declared.answer.Answer.TheVariants.{Refused, Checked
 
 -- ---- the bytes of a certificate
 
--- the bytes spell a certificate whose entries are all by expansion, without proofs
-pub record SpellsThin (bytes : List ℕ) (c : Certificate) : Type 0 where
+-- the bytes spell a certificate in which no reason is a table; these are judged
+pub record SpellsJudged (bytes : List ℕ) (c : Certificate) : Type 0 where
   pub spelled : Spells bytes c
-  pub thin : IsThin c
+  pub no_table : has_table c ≡ false
 
 -- the bytes spell no certificate, and this is the place of their first fault
 pub record SpellNone (bytes : List ℕ) (place : Place) : Type 0 where
   pub none : (c : Certificate) → Spells bytes c → ⊥
   pub first_fault : IsFirstFault IsWritten certificate_text.certificate (items_of bytes) place
 
--- the bytes spell a certificate that has a proof, or a reason other than expansion
-pub record SpellUnbuilt (bytes : List ℕ) : Type 0 where
+-- the bytes spell a certificate in which some reason is a table
+pub record SpellTable (bytes : List ℕ) : Type 0 where
   pub certificate : Certificate
   pub spelled : Spells bytes certificate
-  pub other_form : IsThin certificate → ⊥
+  pub table : has_table certificate ≡ true
 
 -- why the bytes of a certificate aren't judged; they are never too many
 abbrev pub IsCertificateReason : List ℕ → Refusal → Type 0
 IsCertificateReason bytes (Syntax file.Certificate place) = SpellNone bytes place
-IsCertificateReason bytes CertificateNotBuilt = SpellUnbuilt bytes
+IsCertificateReason bytes CertificateNotBuilt = SpellTable bytes
 IsCertificateReason bytes refusal = ⊥
 
 -- an answer where the bytes of a certificate aren't judged

@@ -5,7 +5,7 @@ ghost use Rattle.np_cert.specs.Valid.{IsValid};
 ghost use Rattle.np_check.specs.Bounds.{Bounds};
 ghost use Rattle.np_answers.specs.declared.answer.check.CheckAnswer.TheVariants as check_answer;
 ghost use Rattle.np_answers.specs.declared.answer.Answer.TheVariants as answer;
-ghost use Rattle.np_commands.specs.Checking.{SpellsThin, IsNoCertificate, IsJudgedAlone, IsJudgedBeside};
+ghost use Rattle.np_commands.specs.Checking.{SpellsJudged, IsNoCertificate, IsJudgedAlone, IsJudgedBeside};
 ghost use Rattle.np_commands.specs.Steps.{IsFaultTold, IsCompared, IsPriced};
 
 use np_answers::{Answer, CheckAnswer, Fault, File, Refusal};
@@ -15,15 +15,17 @@ use np_flat::Flat;
 use np_model::Step;
 use std::alloc::Global;
 
-/// The certificate that bytes spell; where they spell none, or one that has a proof or a reason other than expansion, or memory ran
-/// out, the answer that says so.
+/// The certificate that bytes spell; where they spell none, or one that gives a table as a reason, or memory ran out, the answer
+/// that says so.
 pub fn certificate_of(alloc: Global, bytes: &[u8]) -> Result<Certificate, Answer>
-    ensures spelled { IfOk result (SpellsThin bytes.now) }
+    ensures spelled { IfOk result (SpellsJudged bytes.now) }
     ensures refused { IfErr result (IsNoCertificate bytes.now) }
 {
     match read_certificate(alloc, bytes) {
-        Ok(certificate) if certificate.is_thin() => Ok(certificate),
-        Ok(_) => Err(Answer::Refused(Refusal::CertificateNotBuilt)),
+        Ok(certificate) if certificate.has_table() => {
+            Err(Answer::Refused(Refusal::CertificateNotBuilt))
+        }
+        Ok(certificate) => Ok(certificate),
         Err(CertFault::At(place)) => Err(Answer::Refused(Refusal::Syntax(
             File::Certificate,
             place,
@@ -62,6 +64,7 @@ pub fn judge_with_plan(
 /// That a certificate is valid, or else the answer that names its first fault.
 fn validated(alloc: Global, flat: &Flat, certificate: &Certificate) -> Result<(), Answer>
     ensures valid { IfOk result (λ u. IsValid flat.now certificate.now) }
+    ensures bounds { IfOk result (λ u. Bounds flat.now certificate.now.claim) }
     ensures fault { IfErr result (IsFaultTold flat.now certificate.now) }
 {
     match check_certificate(alloc, flat, certificate) {

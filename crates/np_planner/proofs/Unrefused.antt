@@ -1,6 +1,6 @@
 -- That files which stand for a task, for its flat task, or hold a certificate or a plan aren't refused, where the shelf tells what it holds and no
 -- read fails.
-use Rattle.std.proofs.Common.{◌≡◌, ℕ, ◌<◌, ◌≤◌, ◌^◌, inl, inr, List, [], length, Option, Some, Result, Ok, Err, refl, sym, ap, ◌∙◌, subst, arith}
+use Rattle.std.proofs.Common.{◌≡◌, ℕ, ◌<◌, ◌≤◌, ◌^◌, true≢false, inl, inr, List, [], length, Option, Some, Result, Ok, Err, refl, sym, ap, ◌∙◌, subst, arith}
 use Rattle.std.proofs.lemmas.Option.{same_Some, none-some}
 use Rattle.np_io.specs.Seen.{SeenShelf}
 use Rattle.np_io.specs.Files.{Files, IsHeld, IsLonger}
@@ -24,7 +24,7 @@ use Rattle.np_bind.specs.Binding.{bind_task}
 use Rattle.np_flat.specs.declared.parts.Parts.{Parts}
 use Rattle.np_scale.specs.Scaling.{scale_task, IsFlatTaskOf}
 use Rattle.np_cert.specs.declared.certificate.Certificate.{Certificate}
-use Rattle.np_cert.specs.Text.{Spells, IsThin}
+use Rattle.np_cert.specs.Text.{Spells, has_table}
 use Rattle.np_cert.proofs.ReadingTexts.{one_certificate}
 use Rattle.np_answers.specs.declared.answer.File.{File}
 use Rattle.np_answers.specs.declared.answer.File.TheVariants as file
@@ -186,7 +186,7 @@ module _ (shelf : SeenShelf) (f : Files) (told : shelf.files ≡ Some f) where
         is.none c (subst (λ (b : List ℕ). Spells b c) (one_content name written.bytes bytes written.held held) written.of_bytes.spelled)
     not_refused bytes held CertificateNotBuilt is =
         let here = subst (λ (b : List ℕ). Spells b c) (one_content name written.bytes bytes written.held held) written.of_bytes.spelled in
-        is.other_form (subst IsThin (sym (one_certificate bytes is.certificate c is.spelled here)) written.of_bytes.thin)
+        true≢false (sym is.table ∙ ap has_table (one_certificate bytes is.certificate c is.spelled here) ∙ written.of_bytes.no_table)
     not_refused bytes held refusal is = absurd is
 
     pub certificate_there : (new : SeenShelf) → (Rose (shelf.read_faults name) (new.read_faults name) → ⊥) → (answer : Answer) → IsWithoutCertificate name shelf new answer → status_of answer ≡ 7

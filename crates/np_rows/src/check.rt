@@ -135,8 +135,8 @@ const ROWS: &[(&str, &str, u8)] = &[
     ("", "Refused: certificate 1:1 syntax\n", 3),
     (
         "(certificate 1 (claim 0) (proofs (proof 1 (1 demand 0))) (entries))",
-        NOT_BUILT,
-        3,
+        "Yes: no plan costs less than 0\n",
+        0,
     ),
     (
         "(certificate 1 (claim 0) (proofs) (entries (entry (facts) (values 0) 0 (table))))",
@@ -144,9 +144,9 @@ const ROWS: &[(&str, &str, u8)] = &[
         3,
     ),
     (
-        "(certificate 1 (claim 9) (proofs) (entries (entry (facts) (values 0) 0 (proof 0))))",
-        NOT_BUILT,
-        3,
+        "(certificate 1 (claim 0) (proofs) (entries (entry (facts) (values 0) 0 (proof 0))))",
+        FIRST,
+        6,
     ),
 ];
 

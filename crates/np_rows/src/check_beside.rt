@@ -30,13 +30,21 @@ const PROVED: &str = "(certificate 1 (claim 6)
 /// What is said, and the status.
 type Said<'a> = (&'a str, u8);
 
+const SIX: Said<'static> = ("Yes: no plan costs less than 6\n", 0);
+
+const CHEAPEST: Said<'static> = ("Yes: the plan costs 6 and no plan costs less\n", 0);
+
 const ABOVE: Said<'static> = ("No: the claim is above the start's bound\n", 6);
 
 const FIRST: Said<'static> = ("No: entry 0 is not justified\n", 6);
 
 const SECOND: Said<'static> = ("No: entry 1 is not justified\n", 6);
 
+const THIRD: Said<'static> = ("No: entry 2 is not justified\n", 6);
+
 const FOURTH: Said<'static> = ("No: entry 3 is not justified\n", 6);
+
+const SIXTH: Said<'static> = ("No: entry 5 is not justified\n", 6);
 
 const SEVENTH: Said<'static> = ("No: entry 6 is not justified\n", 6);
 
@@ -54,12 +62,7 @@ const LAST: &str = "(values 1) 2 expanded)";
 
 /// What is replaced in the certificate by what, what `check` says of it alone, and what it says beside a plan of cost 6.
 const CHANGED: &[(&str, &str, Said<'static>, Said<'static>)] = &[
-    (
-        "(claim 6)",
-        "(claim 6)",
-        ("Yes: no plan costs less than 6\n", 0),
-        ("Yes: the plan costs 6 and no plan costs less\n", 0),
-    ),
+    ("(claim 6)", "(claim 6)", SIX, CHEAPEST),
     (
         "(claim 6)",
         "(claim 5)",
@@ -103,15 +106,10 @@ const CHANGED: &[(&str, &str, Said<'static>, Said<'static>)] = &[
     (
         "(values 0) 6 expanded",
         "(values 0) 6 (proof 0)",
-        NOT_BUILT,
-        NOT_BUILT,
+        FIRST,
+        FIRST,
     ),
-    (
-        "(proofs)",
-        "(proofs (proof 1 (1 demand 2)))",
-        NOT_BUILT,
-        NOT_BUILT,
-    ),
+    ("(proofs)", "(proofs (proof 1 (1 demand 2)))", SIX, CHEAPEST),
     (
         "(values 0) 6 expanded",
         "(values 0) 3 (table (1 3))",
@@ -121,12 +119,35 @@ const CHANGED: &[(&str, &str, Said<'static>, Said<'static>)] = &[
 ];
 
 /// The same changes of the certificate with proofs.
-const CHANGED_PROOFS: &[(&str, &str, Said<'static>)] = &[
-    ("(claim 6)", "(claim 6)", NOT_BUILT),
-    ("(claim 6)", "(claim 7)", NOT_BUILT),
-    ("(values 3) 4", "(values 3) 5", NOT_BUILT),
-    ("(proof 3 (2", "(proof 3 (3", NOT_BUILT),
-    ("))))", ")))", ("Refused: certificate 11:40 syntax\n", 3)),
+const CHANGED_PROOFS: &[(&str, &str, Said<'static>, Said<'static>)] = &[
+    ("(claim 6)", "(claim 6)", SIX, CHEAPEST),
+    ("(claim 6)", "(claim 7)", ABOVE, ABOVE),
+    ("(values 3) 4", "(values 3) 5", SECOND, SECOND),
+    ("(values 6) 2", "(values 6) 3", THIRD, THIRD),
+    (
+        "(values 1) 2 (proof 1)",
+        "(values 1) 2 (proof 2)",
+        SIXTH,
+        SIXTH,
+    ),
+    (
+        "(proof 3 (2",
+        "(proof 3 (3",
+        ("No: proof 1 fails\n", 6),
+        ("No: proof 1 fails\n", 6),
+    ),
+    (
+        "(values 6) 2 (proof 0)",
+        "(values 6) 2 (table (2 2))",
+        NOT_BUILT,
+        NOT_BUILT,
+    ),
+    (
+        "))))",
+        ")))",
+        ("Refused: certificate 11:40 syntax\n", 3),
+        ("Refused: certificate 11:40 syntax\n", 3),
+    ),
 ];
 
 /// Checks a certificate for the counter alone, and then beside a plan of cost 6.
@@ -154,11 +175,11 @@ fn changed_certificates_are_judged(rt: HostRuntime) {
             .expect(&rt, "memory");
         expect_both(&rt, text.as_str(), *alone, *beside);
     }
-    for (piece, other, said) in CHANGED_PROOFS {
+    for (piece, other, alone, beside) in CHANGED_PROOFS {
         let text = PROVED
             .replace(rt.alloc(), *piece, other)
             .expect(&rt, "memory");
-        expect_both(&rt, text.as_str(), *said, *said);
+        expect_both(&rt, text.as_str(), *alone, *beside);
     }
 }
 

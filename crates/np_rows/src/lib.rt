@@ -6,6 +6,8 @@ mod check;
 #[cfg(test)]
 mod check_beside;
 #[cfg(test)]
+mod check_proofs;
+#[cfg(test)]
 mod command_line;
 #[cfg(test)]
 mod faults;

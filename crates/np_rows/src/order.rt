@@ -28,7 +28,9 @@ const VALID: &str = "(certificate 1 (claim 0) (proofs) (entries))";
 /// A claim that no entry bears out.
 const CLAIM: &str = "(certificate 1 (claim 1) (proofs) (entries))";
 
-const PROOF: &str = "(certificate 1 (claim 1) (proofs (proof 1 (1 demand 0))) (entries))";
+/// A reason that isn't built.
+const TABLE: &str =
+    "(certificate 1 (claim 1) (proofs) (entries (entry (facts) (values 0) 1 (table))))";
 
 const ROWS: &[Row<'static>] = &[
     (
@@ -247,7 +249,7 @@ const ROWS: &[Row<'static>] = &[
     (
         Some(COUNTER),
         Some(FOUR),
-        Some(PROOF),
+        Some(TABLE),
         None,
         "Refused: not built yet\n",
         3,
@@ -256,7 +258,7 @@ const ROWS: &[Row<'static>] = &[
     (
         Some(COUNTER),
         Some(FOUR),
-        Some(PROOF),
+        Some(TABLE),
         Some("("),
         "Refused: not built yet\n",
         3,

@@ -30,7 +30,7 @@ pub enum Refusal {
     Task(TaskReason),
     /// The task of the files has no flat task, for this reason at this spot.
     AtSpot(SpotReason, Text),
-    /// The certificate has a proof, or a reason other than expansion, and such ones aren't judged yet.
+    /// Some reason of the certificate is a table, and such ones aren't judged yet.
     CertificateNotBuilt,
 }
 
