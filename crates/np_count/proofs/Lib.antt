@@ -4,3 +4,4 @@ pub mod Plans
 pub mod Weights
 pub mod Counts
 pub mod Common
+pub mod Members

@@ -1,28 +1,13 @@
 //! Cuts: the coefficient of a step, and the right side.
-ghost use Rattle.std.specs.Prelude.{◌≡◌, ◌<◌, ◌≤◌, ◌^◌, ◌&&◌, not, length, unsigned_abs};
+ghost use Rattle.std.specs.Prelude.{◌≡◌, ◌<◌, ◌≤◌, ◌^◌, ◌&&◌, not, true, length, unsigned_abs};
 ghost use Rattle.std.specs.List.{list_any};
 ghost use Rattle.np_flat.specs.States.{has, holds};
 ghost use Rattle.np_flat.specs.Flats.{IsFlat, IsStep, IsStateOf, IsAscending, AreSmall};
 ghost use Rattle.np_flat.specs.Achieving.{achieves_at};
 ghost use Rattle.np_count.specs.Rows.{one_if, are_between, is_cut};
 
-use crate::facts::{has, one_if};
-use crate::forms::net;
-use np_flat::{FlatState, FlatStep, Parts, Subgoal};
-
-/// Whether the step achieves the subgoal of this number.
-fn achieves_at(parts: &Parts, step: &FlatStep, number: u64) -> bool
-    requires flat { IsFlat parts.now }
-    requires step { IsStep (length parts.now.facts) (length parts.now.values) (length parts.now.subgoals) step.now }
-    ensures { result ≡ achieves_at parts.now step.now number }
-{
-    match parts.subgoals.as_slice().get(number as usize) {
-        Some(Subgoal::Fact(fact)) => has(step.adds.as_slice(), u64::from(*fact)),
-        Some(Subgoal::NotFact(fact)) => has(step.deletes.as_slice(), u64::from(*fact)),
-        Some(Subgoal::Form(form)) => 0 < net(parts, step, form),
-        None => false,
-    }
-}
+use crate::facts::{has, has_wide, one_if};
+use np_flat::{Flat, FlatState, FlatStep, Parts, Subgoal};
 
 /// Whether the subgoal of this number holds in a state.
 fn holds(parts: &Parts, state: &FlatState, number: u64) -> bool
@@ -39,13 +24,12 @@ fn holds(parts: &Parts, state: &FlatState, number: u64) -> bool
     }
 }
 
-/// Whether the step achieves one of these subgoals.
-fn achieves_one(parts: &Parts, step: &FlatStep, subgoals: &[u64]) -> bool
-    requires flat { IsFlat parts.now }
-    requires step { IsStep (length parts.now.facts) (length parts.now.values) (length parts.now.subgoals) step.now }
-    ensures { result ≡ list_any (achieves_at parts.now step.now) subgoals.now }
+/// Whether one of these numbers is among the others, which ascend.
+fn is_among(numbers: &[u32], others: &[u64]) -> bool
+    requires { IsAscending others.now }
+    ensures { result ≡ list_any (has others.now) numbers.now }
 {
-    subgoals.iter().any(|q| achieves_at(parts, step, *q))
+    numbers.iter().any(|n| has_wide(others, u64::from(*n)))
 }
 
 /// Whether one of these numbers is in the ascending list.
@@ -66,15 +50,17 @@ fn holds_one(parts: &Parts, state: &FlatState, subgoals: &[u64]) -> bool
     subgoals.iter().any(|q| holds(parts, state, *q))
 }
 
-/// 1 where the step achieves one of these subgoals and requires none of them.
-pub fn cut_coefficient(parts: &Parts, step: &FlatStep, subgoals: &[u64]) -> i128
-    requires flat { IsFlat parts.now }
-    requires step { IsStep (length parts.now.facts) (length parts.now.values) (length parts.now.subgoals) step.now }
-    ensures value { result ≡ one_if (list_any (achieves_at parts.now step.now) subgoals.now && not (list_any (has step.now.needs) subgoals.now)) }
+/// 1 where the step achieves one of these subgoals and requires none of them. It looks only at the subgoals that read what the
+/// step touches and at those that it requires, however many there are.
+#[tactic(auto, using(crate::proofs::Common::common))]
+pub fn cut_coefficient(flat: &Flat, step: &FlatStep, subgoals: &[u64]) -> i128
+    requires step { IsStep (length flat.now.facts) (length flat.now.values) (length flat.now.subgoals) step.now }
+    requires subgoals { is_cut (length flat.now.subgoals) subgoals.now ≡ true }
+    ensures value { result ≡ one_if (list_any (achieves_at flat.now step.now) subgoals.now && not (list_any (has step.now.needs) subgoals.now)) }
     ensures small { unsigned_abs result ≤ 1 }
 {
-    let achieved = achieves_one(parts, step, subgoals);
-    one_if(achieved && !has_one(step.needs.as_slice(), subgoals))
+    let achieved = flat.achieves_one(step, subgoals);
+    one_if(achieved && !is_among(step.needs.as_slice(), subgoals))
 }
 
 /// 1 where none of these subgoals holds and the goal has one of them.

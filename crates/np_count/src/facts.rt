@@ -18,6 +18,15 @@ pub fn has(numbers: &[u32], number: u64) -> bool
         .is_ok()
 }
 
+/// Whether a wide number is in an ascending list of wide numbers.
+#[tactic(auto, using(np_flat::proofs::Ascending::has_found))]
+pub fn has_wide(numbers: &[u64], number: u64) -> bool
+    requires { IsAscending numbers.now }
+    ensures { result ≡ has numbers.now number }
+{
+    numbers.binary_search(&number).is_ok()
+}
+
 /// Whether the subgoal of this number is this fact, or for false its negation.
 fn is_fact(subgoals: &[Subgoal], positive: bool, fact: u64, number: u32) -> bool
     ensures { result ≡ option_map_or (is_fact positive fact) (slice_get subgoals.now number) false }

@@ -9,21 +9,22 @@ use crate::facts::{flow, flow_right, has};
 use crate::floors::{floor_right, is_floor};
 use crate::forms::{form_at, net_on, value_of};
 use crate::proof::Row;
-use np_flat::{FlatState, FlatStep, Parts};
+use np_flat::{Flat, FlatState, FlatStep, Parts};
 
 /// The coefficient of a step. It takes no memory.
-pub fn coefficient(parts: &Parts, step: &FlatStep, row: &Row) -> i128
-    requires flat { IsFlat parts.now }
-    requires step { IsStep (length parts.now.facts) (length parts.now.values) (length parts.now.subgoals) step.now }
-    ensures value { result ≡ coefficient parts.now step.now row.now }
+pub fn coefficient(flat: &Flat, step: &FlatStep, row: &Row) -> i128
+    requires step { IsStep (length flat.now.facts) (length flat.now.values) (length flat.now.subgoals) step.now }
+    requires row { is_allowed flat.now row.now ≡ true }
+    ensures value { result ≡ coefficient flat.now step.now row.now }
     ensures small { unsigned_abs result < 2 ^ 99 }
 {
+    let parts = flat.parts();
     match row {
         Row::Demand(q) => net_on(parts, step, *q),
         Row::Flow(p) => flow(parts, true, *p, step),
         Row::FlowNot(p) => flow(parts, false, *p, step),
         Row::Floor(q, _) => net_on(parts, step, *q),
-        Row::Cut(subgoals) => cut_coefficient(parts, step, subgoals.as_slice()),
+        Row::Cut(subgoals) => cut_coefficient(flat, step, subgoals.as_slice()),
     }
 }
 

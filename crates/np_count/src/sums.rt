@@ -22,14 +22,14 @@ fn with_item(sum: i128, weight: u64, amount: i128) -> Option<i128>
 }
 
 /// The weighted coefficients of a step, where every product and partial sum fits.
-fn coefficients(parts: &Parts, step: &FlatStep, items: &[(u64, Row)]) -> Option<i128>
-    requires flat { IsFlat parts.now }
-    requires step { IsStep (length parts.now.facts) (length parts.now.values) (length parts.now.subgoals) step.now }
-    ensures { result ≡ added_up (coefficient parts.now step.now) (pos 0) items.now }
+fn coefficients(flat: &Flat, step: &FlatStep, items: &[(u64, Row)]) -> Option<i128>
+    requires step { IsStep (length flat.now.facts) (length flat.now.values) (length flat.now.subgoals) step.now }
+    requires rows { All (λ i. is_allowed flat.now i.1 ≡ true) items.now }
+    ensures { result ≡ added_up (coefficient flat.now step.now) (pos 0) items.now }
 {
     let mut sum = 0;
     for (weight, row) in items {
-        sum = with_item(sum, *weight, coefficient(parts, step, row))?;
+        sum = with_item(sum, *weight, coefficient(flat, step, row))?;
     }
     Some(sum)
 }
@@ -50,13 +50,13 @@ fn right_sides(parts: &Parts, state: &FlatState, items: &[(u64, Row)]) -> Option
 }
 
 /// Whether the weighted coefficients of a step add up to at most the divisor times its cost.
-fn pays(parts: &Parts, proof: &Proof, step: &FlatStep) -> bool
-    requires flat { IsFlat parts.now }
+fn pays(flat: &Flat, proof: &Proof, step: &FlatStep) -> bool
     requires divisor { proof.now.divisor < 2 ^ 62 }
-    requires step { IsStep (length parts.now.facts) (length parts.now.values) (length parts.now.subgoals) step.now }
-    ensures { result ≡ pays parts.now proof.now step.now }
+    requires step { IsStep (length flat.now.facts) (length flat.now.values) (length flat.now.subgoals) step.now }
+    requires rows { All (λ i. is_allowed flat.now i.1 ≡ true) proof.now.items }
+    ensures { result ≡ pays flat.now proof.now step.now }
 {
-    match coefficients(parts, step, proof.items.as_slice()) {
+    match coefficients(flat, step, proof.items.as_slice()) {
         Some(sum) => sum <= paid(proof.divisor, step.cost),
         None => false,
     }
@@ -72,13 +72,13 @@ fn paid(divisor: u64, cost: u64) -> i128
 }
 
 /// Whether all of these steps pay.
-fn all_pay(parts: &Parts, proof: &Proof, steps: &[FlatStep]) -> bool
-    requires flat { IsFlat parts.now }
+fn all_pay(flat: &Flat, proof: &Proof, steps: &[FlatStep]) -> bool
     requires divisor { proof.now.divisor < 2 ^ 62 }
-    requires steps { All (IsStep (length parts.now.facts) (length parts.now.values) (length parts.now.subgoals)) steps.now }
-    ensures { result ≡ list_all (pays parts.now proof.now) steps.now }
+    requires steps { All (IsStep (length flat.now.facts) (length flat.now.values) (length flat.now.subgoals)) steps.now }
+    requires rows { All (λ i. is_allowed flat.now i.1 ≡ true) proof.now.items }
+    ensures { result ≡ list_all (pays flat.now proof.now) steps.now }
 {
-    steps.iter().all(|step| pays(parts, proof, step))
+    steps.iter().all(|step| pays(flat, proof, step))
 }
 
 /// Whether the number of a floor is within its limit.
@@ -108,13 +108,14 @@ fn are_items(parts: &Parts, items: &[(u64, Row)]) -> bool
 }
 
 /// Whether a proof is right, as far as that doesn't depend on a state. It takes no memory.
+#[tactic(auto, using(crate::proofs::Members::rows_allowed))]
 pub fn proof_ok(flat: &Flat, proof: &Proof) -> bool
     ensures { result ≡ is_proof flat.now proof.now }
 {
     let parts = flat.parts();
     proof.divisor < 1 << 62
         && are_items(parts, proof.items.as_slice())
-        && all_pay(parts, proof, parts.steps.as_slice())
+        && all_pay(flat, proof, parts.steps.as_slice())
 }
 
 /// A number below 2^62 as a bound.

@@ -9,3 +9,4 @@ pub mod Searches
 pub mod Runs
 pub mod Index
 pub mod Moves
+pub mod Touches

@@ -1,14 +1,15 @@
 //! The flat task, and what holds in its states.
-ghost use Rattle.std.specs.Prelude.{◌≡◌, ◌<◌, ◌≤◌, ◌^◌, ℕ, true, length, All, unsigned_abs, Some, IfOk, OnOk};
-ghost use Rattle.std.specs.List.{list_all};
+ghost use Rattle.std.specs.Prelude.{◌≡◌, ◌<◌, ◌≤◌, ◌^◌, ℕ, true, length, All, unsigned_abs, Some, IfOk, OnOk, ◌&&◌};
+ghost use Rattle.std.specs.List.{list_all, list_any};
 ghost use Rattle.np_flat.specs.Flats.{IsAscending, IsFlat, IsForm, IsSubgoal, IsStep, IsStateOf, AreWithinLimit, AreSmall};
 ghost use Rattle.np_flat.specs.States.{has, holds, is_goal, is_applicable, next};
-ghost use Rattle.np_flat.specs.Achieving.{achieves, achieved_by, net_of};
+ghost use Rattle.np_flat.specs.Achieving.{achieves, achieves_at, achieved_by, net_of};
+ghost use Rattle.np_flat.specs.Readers.{rows, row};
 
 use crate::net::net_terms;
-use crate::numbers::has;
+use crate::numbers::{has, has_wide};
 use crate::parts::{FlatStep, Form, Parts, Subgoal};
-use crate::readers::Readers;
+use crate::readers::{Readers, row_of};
 use crate::state::FlatState;
 use crate::step::leave_after;
 use sqlite_items::Items;
@@ -178,6 +179,83 @@ impl Flat {
             Subgoal::Fact(fact) => has(step.adds.as_slice(), *fact),
             Subgoal::NotFact(fact) => has(step.deletes.as_slice(), *fact),
             Subgoal::Form(form) => 0 < net_terms(step.changes.as_slice(), form.terms.as_slice()),
+        }
+    }
+
+    /// Whether a step achieves one of the subgoals of these numbers, which ascend. It takes no memory, and looks only at the
+    /// subgoals that read a fact or a value that the step touches, however many numbers there are.
+    pub fn achieves_one(&self, step: &FlatStep, subgoals: &[u64]) -> bool
+        requires step { IsStep (length self.now.facts) (length self.now.values) (length self.now.subgoals) step.now }
+        requires ascending { IsAscending subgoals.now }
+        ensures { result ≡ list_any (achieves_at self.now step.now) subgoals.now }
+    {
+        let facts = self.readers.by_fact.as_slice();
+        self.one_by_facts(step, subgoals, facts, step.adds.as_slice())
+            || self.one_by_facts(step, subgoals, facts, step.deletes.as_slice())
+            || self.one_by_changes(step, subgoals, self.readers.by_value.as_slice())
+    }
+
+    /// Whether one of these subgoals is read by one of these facts, and achieved by the step.
+    fn one_by_facts(
+        &self,
+        step: &FlatStep,
+        subgoals: &[u64],
+        table: &[Vec<u32>],
+        facts: &[u32],
+    ) -> bool
+        requires step { IsStep (length self.now.facts) (length self.now.values) (length self.now.subgoals) step.now }
+        requires ascending { IsAscending subgoals.now }
+        requires facts { All (λ p. p < length (rows table.now)) facts.now }
+        ensures { result ≡
+            list_any (λ p. list_any (λ q. has subgoals.now q && achieves_at self.now step.now q) (row (rows table.now) p)) facts.now }
+    {
+        facts
+            .iter()
+            .any(|fact| self.one_read(step, subgoals, table, *fact))
+    }
+
+    /// Whether one of these subgoals reads a value that the step changes, and is achieved by the step.
+    fn one_by_changes(&self, step: &FlatStep, subgoals: &[u64], table: &[Vec<u32>]) -> bool
+        requires step { IsStep (length self.now.facts) (length self.now.values) (length self.now.subgoals) step.now }
+        requires ascending { IsAscending subgoals.now }
+        requires values { All (λ c. c.0 < length (rows table.now)) step.now.changes }
+        ensures { result ≡
+            list_any (λ c. list_any (λ q. has subgoals.now q && achieves_at self.now step.now q) (row (rows table.now) c.0)) step.now.changes }
+    {
+        step.changes
+            .as_slice()
+            .iter()
+            .any(|change| self.one_read(step, subgoals, table, change.0))
+    }
+
+    /// Whether one of the subgoals in the row of this number is among these, and achieved by the step.
+    fn one_read(&self, step: &FlatStep, subgoals: &[u64], table: &[Vec<u32>], place: u32) -> bool
+        requires step { IsStep (length self.now.facts) (length self.now.values) (length self.now.subgoals) step.now }
+        requires ascending { IsAscending subgoals.now }
+        requires place { place < length (rows table.now) }
+        ensures { result ≡ list_any (λ q. has subgoals.now q && achieves_at self.now step.now q) (row (rows table.now) place) }
+    {
+        self.one_of(step, subgoals, row_of(table, place as usize))
+    }
+
+    /// Whether one of these numbers is among the subgoals, and achieved by the step.
+    fn one_of(&self, step: &FlatStep, subgoals: &[u64], numbers: &[u32]) -> bool
+        requires step { IsStep (length self.now.facts) (length self.now.values) (length self.now.subgoals) step.now }
+        requires ascending { IsAscending subgoals.now }
+        ensures { result ≡ list_any (λ q. has subgoals.now q && achieves_at self.now step.now q) numbers.now }
+    {
+        numbers.iter().any(|number| has_wide(subgoals, u64::from(*number))
+            && self.achieves_at(step, *number))
+    }
+
+    /// Whether a step achieves the subgoal of this number.
+    fn achieves_at(&self, step: &FlatStep, subgoal: u32) -> bool
+        requires step { IsStep (length self.now.facts) (length self.now.values) (length self.now.subgoals) step.now }
+        ensures { result ≡ achieves_at self.now step.now subgoal }
+    {
+        match self.parts.subgoals.as_slice().get(subgoal as usize) {
+            Some(subgoal) => self.step_achieves(step, subgoal),
+            None => false,
         }
     }
 

@@ -14,6 +14,15 @@ pub fn has(numbers: &[u32], number: u32) -> bool
     numbers.binary_search(&number).is_ok()
 }
 
+/// Whether a wide number is in an ascending list of wide numbers. It takes no memory.
+#[tactic(auto, using(crate::proofs::Ascending::has_found))]
+pub fn has_wide(numbers: &[u64], number: u64) -> bool
+    requires { IsAscending numbers.now }
+    ensures { result ≡ has numbers.now number }
+{
+    numbers.binary_search(&number).is_ok()
+}
+
 /// Puts a number in its place in an ascending list, which stays as it is where the number is in it, and where there is
 /// no memory for one more number, which is an error.
 pub fn put_in(numbers: &mut Vec<u32>, number: u32) -> Result<(), AllocError>

@@ -68,6 +68,14 @@ fn put_changed_rows(
     Ok(())
 }
 
+/// The row of this number.
+pub fn row_of(table: &[Vec<u32>], place: usize) -> &[u32]
+    requires { place < length (rows table.now) }
+    ensures { result.now ≡ row (rows table.now) place }
+{
+    table[place].as_slice()
+}
+
 /// Puts the row of this number at the end.
 fn put_row(table: &[Vec<u32>], place: usize, numbers: &mut Vec<u32>) -> Result<(), AllocError>
     requires { place < length (rows table.now) }
