@@ -2,7 +2,6 @@
 use crate::flat::flat;
 use np_cert::{Certificate, Entry, Limit, Why};
 use np_check::{Verdict, check_certificate};
-use np_count::Proof;
 use np_flat::{Flat, FlatState};
 use sqlite_items::Items;
 use std::process::Abort;
@@ -156,17 +155,6 @@ fn is_no_reason(rt: &(impl Abort + AllocGlobal), flat: &Flat, why: Why) -> bool 
     check_certificate(rt.alloc(), flat, &other) == Verdict::BadEntry(0)
 }
 
-/// Whether a proof is refused.
-fn is_no_proof(rt: &(impl Abort + AllocGlobal), flat: &Flat) -> bool {
-    let mut other = certificate(rt, Limit::Number(0), entries(rt, &[START, START]));
-    let proof = Proof {
-        divisor: 1,
-        items: Items::new(rt.alloc()),
-    };
-    other.proofs.push(proof).expect(rt, "memory");
-    check_certificate(rt.alloc(), flat, &other) == Verdict::BadProof(0)
-}
-
 /// Whether each case has its verdict.
 fn all_pass(rt: &(impl Abort + AllocGlobal), flat: &Flat) -> bool {
     for case in CASES {
@@ -187,11 +175,10 @@ fn all_are_unfit(rt: &(impl Abort + AllocGlobal), flat: &Flat) -> bool {
     true
 }
 
-/// Whether other reasons than expansion are refused.
+/// Whether a proof that isn't there and a table are refused.
 fn are_no_reasons(rt: &(impl Abort + AllocGlobal), flat: &Flat) -> bool {
     is_no_reason(rt, flat, Why::Proof(0))
         && is_no_reason(rt, flat, Why::Table(Items::new(rt.alloc())))
-        && is_no_proof(rt, flat)
 }
 
 /// Whether the verdicts for the small flat task are those of the tables.

@@ -17,6 +17,8 @@ mod io;
 #[cfg(test)]
 mod plans;
 #[cfg(test)]
+mod proofs;
+#[cfg(test)]
 mod search;
 #[cfg(test)]
 mod space;
