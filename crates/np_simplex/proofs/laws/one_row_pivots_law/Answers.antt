@@ -1,0 +1,5 @@
+use Rattle.np_simplex.proofs.OneRow.{one_row_few}
+use Rattle.np_simplex.proofs.laws.one_row_pivots_law.Goals as goal
+
+pub returns : goal.returns
+returns c = one_row_few
