@@ -1,0 +1,4 @@
+pub mod Closes
+pub mod Achieved
+pub mod Works
+pub mod Files

@@ -1,0 +1,6 @@
+pub mod Laws
+pub mod Listed
+pub mod Lowering
+pub mod Tables
+pub mod Units
+pub mod Waiting
