@@ -1,6 +1,8 @@
+pub mod Allows
 pub mod Bounds
 pub mod Divides
 pub mod Falls
+pub mod Judges
 pub mod Listing
 pub mod Orders
 pub mod Pays

@@ -4,6 +4,7 @@
 //! cost per gain, which is this project's own.
 #![tactic(auto)]
 
+mod given;
 mod laws;
 mod listed;
 mod lower;
@@ -12,5 +13,6 @@ mod tables;
 mod units;
 mod waiting;
 
+pub use given::Judge;
 pub use laws::{tables_bound, tables_bound_plans};
 pub use tables::{TableAt, greatest, table};

@@ -29,7 +29,7 @@ fn larger(a: Option<u64>, b: Option<u64>) -> Option<u64>
 }
 
 /// The largest entry among these.
-fn reached(entries: &[Option<u64>], numbers: &[u32]) -> Option<u64>
+pub(crate) fn reached(entries: &[Option<u64>], numbers: &[u32]) -> Option<u64>
     requires { All (λ q. q < length entries.now) numbers.now }
     ensures { result ≡ reach (at entries.now) numbers.now }
 {
@@ -41,7 +41,7 @@ fn reached(entries: &[Option<u64>], numbers: &[u32]) -> Option<u64>
 }
 
 /// The sum, or the greatest number of an entry.
-fn capped_sum(a: u64, b: u64) -> u64
+pub(crate) fn capped_sum(a: u64, b: u64) -> u64
     ensures { result ≡ capped (a + b) }
 {
     a.saturating_add(b).min(MOST)

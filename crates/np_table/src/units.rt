@@ -52,7 +52,7 @@ fn subgoal_share(flat: &Flat, state: &FlatState, number: u32, step: &FlatStep, s
 }
 
 /// Lowers the units of these subgoals to the shares of a step.
-fn pay(
+pub(crate) fn pay(
     flat: &Flat,
     state: &FlatState,
     number: u32,
