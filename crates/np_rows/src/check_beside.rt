@@ -143,6 +143,12 @@ const CHANGED_PROOFS: &[(&str, &str, Said<'static>, Said<'static>)] = &[
         NOT_BUILT,
     ),
     (
+        "(values 1) 2 (proof 1))",
+        "(values 1) 2 (proof 1))\n(entry (facts) (values 2) 3 expanded)",
+        TWICE,
+        TWICE,
+    ),
+    (
         "))))",
         ")))",
         ("Refused: certificate 11:40 syntax\n", 3),
@@ -265,11 +271,13 @@ fn expect_beside(
 
 #[test]
 fn plans_are_judged(rt: HostRuntime) {
-    for (claim, plan, said) in PLANS {
-        let text = THIN
-            .replace(rt.alloc(), "(claim 6)", claim)
-            .expect(&rt, "memory");
-        expect_beside(&rt, (COUNTER, FOUR), text.as_str(), plan, *said);
+    for certificate in [THIN, PROVED] {
+        for (claim, plan, said) in PLANS {
+            let text = certificate
+                .replace(rt.alloc(), "(claim 6)", claim)
+                .expect(&rt, "memory");
+            expect_beside(&rt, (COUNTER, FOUR), text.as_str(), plan, *said);
+        }
     }
 }
 
