@@ -1,4 +1,5 @@
 pub mod Closes
 pub mod Achieved
 pub mod Works
+pub mod Watches
 pub mod Files

@@ -112,7 +112,7 @@ turned_within m (q ∷ qs) can work within all =
     (λ e. turned_within m qs can work rest all)
     (λ e. turned_within m qs (set can q true) (work ++ q ∷ []) rest (All-push (λ p. p < m) work q all (All-head (λ p. p < m) q qs within)))
 
-all_on : (can : List Bool) (xs : List ℕ) → ((q : ℕ) → has xs q ≡ true → on can q ≡ true) → list_all (on can) xs ≡ true
+pub all_on : (can : List Bool) (xs : List ℕ) → ((q : ℕ) → has xs q ≡ true → on can q ≡ true) → list_all (on can) xs ≡ true
 all_on can [] h = refl
 all_on can (x ∷ xs) h =
     and_from (on can x) (list_all (on can) xs) (h x (or_left (eqb x x) (has xs x) (eq-eqb x x refl)))

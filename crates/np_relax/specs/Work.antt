@@ -1,5 +1,5 @@
 -- Subgoals are turned on one after the other, and wait until the steps that need them are looked at.
-use Rattle.std.specs.Prelude.{◌≡◌, ℕ, ◌+◌, ◌<◌, Bool, true, false, not, ◌&&◌, List, [], ◌∷◌, ◌++◌, length, filter, slice_index_or, slice_set, if◌then◌else◌, All}
+use Rattle.std.specs.Prelude.{◌≡◌, ℕ, ◌+◌, ◌<◌, Bool, true, false, not, ◌&&◌, List, [], ◌∷◌, ◌++◌, length, filter, slice_index_or, slice_get, slice_set, get_or, Option, Some, None, if◌then◌else◌, All}
 use Rattle.std.specs.List.{list_all, range_with_len}
 use Rattle.np_flat.specs.declared.state.FlatState.{FlatState}
 use Rattle.np_flat.specs.declared.parts.Parts.{Parts}
@@ -51,3 +51,9 @@ pub record IsGoing (task : Parts) (s : FlatState) (removed can : List Bool) (wor
   pub inside : (others : ℕ → Bool) → IsClosed task s (on removed) others → (q : ℕ) → on can q ≡ true → others q ≡ true
   pub true_ones : (q : ℕ) → holds task s q ≡ true → on can q ≡ true
   pub done : (n : ℕ) → n < steps → IsDone task removed n can work
+
+-- by step the place of the need that it waits for, all before it on; none where all that the step achieves is on
+pub record IsWatching (task : Parts) (can : List Bool) (watched : List (Option ℕ)) : Type 0 where
+  pub count : length watched ≡ length task.steps
+  pub before : (n p i : ℕ) → slice_get watched n ≡ Some (Some p) → i < p → on can (get_or (needs_of task n) i 0) ≡ true
+  pub none : (n q : ℕ) → slice_get watched n ≡ Some None → achieved_by task n q ≡ true → on can q ≡ true
