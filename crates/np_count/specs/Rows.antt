@@ -71,7 +71,7 @@ guards task form least need = option_map_or (λ g. same_terms g.terms form.terms
 abbrev pub is_guarded : Parts → Form → ℤ → FlatStep → Bool
 is_guarded task form m step = int_le (pos 0) (net step form) || list_any (guards task form (m -ℤ net step form)) step.needs
 
--- ascending numbers, at or above the least and below the limit
+-- strictly ascending numbers, at or above the least and below the limit
 abbrev pub are_between : ℕ → ℕ → List ℕ → Bool
 are_between limit least [] = true
 are_between limit least (u ∷ us) = nat_le least u && (nat_lt u limit && are_between limit (suc u) us)

@@ -7,7 +7,7 @@ pub enum Row {
     /// A form of the goal asks for its rise.
     Demand(u64),
     /// The steps that make a fact true and don't need it, less those that need it and make it false, are at least 1 where the
-    /// goal has the fact, less 1 where it is true in the state.
+    /// goal has the fact, less 1 where it is true in the state. A step that needs the fact and makes it true counts 0.
     Flow(u64),
     /// The same of the negation of a fact.
     FlowNot(u64),

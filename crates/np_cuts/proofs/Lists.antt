@@ -9,8 +9,7 @@ use Rattle.np_flat.specs.declared.state.FlatState.{FlatState}
 use Rattle.np_flat.specs.declared.parts.Parts.{Parts}
 use Rattle.np_flat.specs.Flats.{IsFlat}
 use Rattle.np_flat.specs.States.{has, holds}
-use Rattle.np_relax.specs.Closed.{IsClosed, IsLeast}
-use Rattle.np_relax.specs.Work.{on}
+use Rattle.np_relax.specs.Closed.{IsClosed, IsLeast, on}
 use Rattle.std.proofs.lemmas.Option.{slice_get_within}
 use Rattle.np_count.specs.declared.proof.Row.{Row}
 use Rattle.np_count.specs.declared.proof.Row.TheVariants as row

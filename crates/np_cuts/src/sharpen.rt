@@ -3,7 +3,7 @@ ghost use Rattle.std.specs.Prelude.{◌≡◌, ◌<◌, ℕ, ◌++◌, length, A
 ghost use Rattle.np_flat.specs.Flats.{IsFlat, IsStateOf, AreSmall};
 ghost use Rattle.np_flat.specs.States.{has, holds};
 ghost use Rattle.np_relax.specs.Needing.{needs_of, IsNeeding};
-ghost use Rattle.np_relax.specs.Work.{on};
+ghost use Rattle.np_relax.specs.Closed.{on};
 ghost use Rattle.np_cuts.specs.Cuts.{counts, outside, single_cuts, false_ones, IsSharpened, AreSharpened, AreCuts};
 
 use np_count::Row;

@@ -9,7 +9,8 @@ use Rattle.std.proofs.lemmas.Option.{slice_get_within, slice_get-get_or, get_or_
 use Rattle.np_flat.specs.declared.parts.Parts.{Parts}
 use Rattle.np_flat.specs.Achieving.{achieved_by}
 use Rattle.np_relax.specs.Needing.{needs_of}
-use Rattle.np_relax.specs.Work.{on, achieved, turned, fires, fired, IsWatching}
+use Rattle.np_relax.specs.Closed.{on}
+use Rattle.np_relax.specs.Work.{achieved, turned, fires, fired, IsWatching}
 use Rattle.np_relax.proofs.Achieved.{achieved_has, achieved_within}
 use Rattle.np_relax.proofs.Works.{turned_grown, turned_all, all_on}
 

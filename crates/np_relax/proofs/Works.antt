@@ -13,9 +13,9 @@ use Rattle.np_flat.specs.declared.parts.FlatStep.{FlatStep}
 use Rattle.np_flat.specs.declared.parts.Parts.{Parts}
 use Rattle.np_flat.specs.States.{has, holds, subgoal_holds}
 use Rattle.np_flat.specs.Achieving.{achieves_at}
-use Rattle.np_relax.specs.Closed.{IsClosed, IsLeast}
+use Rattle.np_relax.specs.Closed.{IsClosed, IsLeast, on}
 use Rattle.np_relax.specs.Needing.{needs_of}
-use Rattle.np_relax.specs.Work.{on, achieved, turned, fires, fired, handled, off, IsDone, IsGoing}
+use Rattle.np_relax.specs.Work.{achieved, turned, fires, fired, handled, off, IsDone, IsGoing}
 use Rattle.np_relax.proofs.Closes.{map_or_true, all_weaker, by_step}
 use Rattle.np_relax.proofs.Achieved.{achieved_has, achieved_within}
 

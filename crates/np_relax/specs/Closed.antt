@@ -1,5 +1,5 @@
 -- Subgoals that can come to hold when what steps make false is forgotten (Bonet and Geffner 2001, the relaxed problem).
-use Rattle.std.specs.Prelude.{◌≡◌, ℕ, Bool, true, false, List, slice_get, Some, All}
+use Rattle.std.specs.Prelude.{◌≡◌, ℕ, Bool, true, false, List, slice_get, slice_index_or, Some, All}
 use Rattle.std.specs.List.{list_all}
 use Rattle.np_flat.specs.declared.state.FlatState.{FlatState}
 use Rattle.np_flat.specs.declared.parts.FlatStep.{FlatStep}
@@ -8,6 +8,10 @@ use Rattle.np_flat.specs.States.{holds}
 use Rattle.np_flat.specs.Achieving.{achieves_at}
 use Rattle.np_flat.specs.Plans.{run_from}
 use Rattle.np_flat.specs.Flats.{IsStateOf, IsFlat}
+
+-- the set of the numbers whose bits are on
+abbrev pub on : List Bool → ℕ → Bool
+on bits q = slice_index_or bits q false
 
 -- a set of subgoals that has each one that holds in the state, and each one that a step achieves that isn't removed and whose needs are all in the set
 pub record IsClosed (task : Parts) (s : FlatState) (removed set : ℕ → Bool) : Type 0 where

@@ -1,16 +1,12 @@
 -- Subgoals are turned on one after the other, and wait until the steps that need them are looked at.
-use Rattle.std.specs.Prelude.{◌≡◌, ℕ, ◌+◌, ◌<◌, Bool, true, false, not, ◌&&◌, List, [], ◌∷◌, ◌++◌, length, filter, slice_index_or, slice_get, slice_set, get_or, Option, Some, None, if◌then◌else◌, All}
+use Rattle.std.specs.Prelude.{◌≡◌, ℕ, ◌+◌, ◌<◌, Bool, true, false, not, ◌&&◌, List, [], ◌∷◌, ◌++◌, length, filter, slice_get, slice_set, get_or, Option, Some, None, if◌then◌else◌, All}
 use Rattle.std.specs.List.{list_all, range_with_len}
 use Rattle.np_flat.specs.declared.state.FlatState.{FlatState}
 use Rattle.np_flat.specs.declared.parts.Parts.{Parts}
 use Rattle.np_flat.specs.States.{has, holds}
 use Rattle.np_flat.specs.Achieving.{achieved_by}
-use Rattle.np_relax.specs.Closed.{IsClosed}
+use Rattle.np_relax.specs.Closed.{IsClosed, on}
 use Rattle.np_relax.specs.Needing.{needs_of}
-
--- whether the number is turned on
-abbrev pub on : List Bool → ℕ → Bool
-on can q = slice_index_or can q false
 
 -- what the step of this number achieves, ascending
 abbrev pub achieved : Parts → ℕ → List ℕ

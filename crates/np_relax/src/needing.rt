@@ -13,7 +13,7 @@ pub struct Needing {
 }
 
 impl Needing {
-    /// The steps of this task by what they need: one entry for each need of each step. Out of memory is an error.
+    /// The steps of this task by what they need: each step comes under each of its needs. Out of memory is an error.
     pub fn new(alloc: Global, flat: &Flat) -> Result<Needing, AllocError>
         ensures { IfOk result (IsNeeding flat.now) }
     {

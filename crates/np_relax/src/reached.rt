@@ -2,9 +2,9 @@
 ghost use Rattle.std.specs.Prelude.{◌≡◌, ◌<◌, ◌≤◌, ℕ, true, false, Some, length, get_or, All, IfOk, OnOk};
 ghost use Rattle.np_flat.specs.Flats.{IsStateOf, AreSmall};
 ghost use Rattle.np_flat.specs.States.{holds};
-ghost use Rattle.np_relax.specs.Closed.{IsLeast};
+ghost use Rattle.np_relax.specs.Closed.{IsLeast, on};
 ghost use Rattle.np_relax.specs.Needing.{IsNeeding};
-ghost use Rattle.np_relax.specs.Work.{on, turned, fired, handled, IsWatching};
+ghost use Rattle.np_relax.specs.Work.{turned, fired, handled, IsWatching};
 
 use crate::needing::{Needing, needs};
 use np_flat::{Flat, FlatState};

@@ -15,7 +15,7 @@ pub fn one_row_law()
         AreSmall rows right costs → IsWideRun (length rows + length costs) (start rows right costs) → ⊥ }
 {}
 
-/// With one row there are never too many pivots: one is enough.
+/// With one row there are never too many pivots.
 pub fn one_row_pivots_law()
     ensures { (rows : List (List ℤ)) (right : List ℤ) (costs : List ℕ) → length rows ≡ 1 → length right ≡ length rows →
         GoesOn (length rows + length costs) (most_pivots (length rows) (length costs)) (start rows right costs) → ⊥ }

@@ -15,8 +15,7 @@ use Rattle.np_flat.specs.Achieving.{achieved_by}
 use Rattle.np_relax.specs.Needing.{needs_of}
 use Rattle.np_relax.specs.Work.{achieved}
 use Rattle.np_relax.proofs.Achieved.{achieved_has, achieved_within}
-use Rattle.np_table.specs.Tables.{Entry, IsAtMost, larger, reach}
-use Rattle.np_table.specs.Lowering.{at}
+use Rattle.np_table.specs.Tables.{Entry, IsAtMost, larger, reach, at}
 use Rattle.np_table.specs.Units.{paid, IsPaid}
 use Rattle.np_table.specs.Given.{lesser, allowed, noted, noted_by, is_number, IsNoted}
 use Rattle.np_table.proofs.Orders.{at_most_refl, at_most_trans}

@@ -15,14 +15,14 @@ use Rattle.np_flat.specs.declared.parts.Parts.{Parts}
 use Rattle.np_flat.specs.States.{has, holds, subgoal_holds}
 use Rattle.np_flat.specs.Plans.{cost_of}
 use Rattle.np_flat.specs.Achieving.{achieves, achieved_by}
-use Rattle.np_relax.specs.Closed.{IsClosed, IsLeast}
+use Rattle.np_relax.specs.Closed.{IsClosed, IsLeast, on}
 use Rattle.np_relax.specs.Needing.{needs_of}
-use Rattle.np_relax.specs.Work.{on, achieved}
+use Rattle.np_relax.specs.Work.{achieved}
 use Rattle.np_relax.proofs.Achieved.{achieved_has, achieved_within}
 use Rattle.np_relax.proofs.Closes.{map_or_true}
 use Rattle.np_relax.proofs.Works.{has_all}
-use Rattle.np_table.specs.Tables.{Entry, IsAtMost, reach, share, Achiever, IsEntry, IsTable, IsGreatest}
-use Rattle.np_table.specs.Lowering.{at, unit_at, capped, weight_by, weight, is_below, lowered, settled_by, settled, all_settled, height, AreUnits, IsSettled, IsFalling}
+use Rattle.np_table.specs.Tables.{Entry, IsAtMost, reach, share, Achiever, IsEntry, IsTable, IsGreatest, at}
+use Rattle.np_table.specs.Lowering.{unit_at, capped, weight_by, weight, is_below, lowered, settled_by, settled, all_settled, height, AreUnits, IsSettled, IsFalling}
 use Rattle.np_table.proofs.Orders.{at_most_refl, at_most_trans, at_most_zero, at_most_number, below_at_most, not_below_at_most, below_height, reach_mono, reach_same, reach_numbers, numbers_reach}
 
 pub record Fallen (entries : List Entry) (work : List Bool) (after : List Entry × List Bool) : Type 0 where

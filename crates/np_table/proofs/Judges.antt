@@ -17,8 +17,8 @@ use Rattle.np_flat.specs.Plans.{cost_of}
 use Rattle.np_flat.specs.Achieving.{achieves, achieves_at, achieved_by}
 use Rattle.np_relax.specs.Needing.{needs_of}
 use Rattle.np_relax.proofs.Closes.{map_or_true}
-use Rattle.np_table.specs.Tables.{Entry, IsAtMost, reach, share, Achiever, IsEntry, IsTable}
-use Rattle.np_table.specs.Lowering.{at, unit_at, capped, weight_by, AreUnits}
+use Rattle.np_table.specs.Tables.{Entry, IsAtMost, reach, share, Achiever, IsEntry, IsTable, at}
+use Rattle.np_table.specs.Lowering.{unit_at, capped, weight_by, AreUnits}
 use Rattle.np_table.specs.Given.{allowed, is_at_most, is_number, is_fit, limit_by, is_good, IsNoted}
 use Rattle.np_table.proofs.Allows.{numbers_reach}
 

@@ -1,5 +1,5 @@
 -- The list of the entries above 0 has the entries of the table.
-use Rattle.std.proofs.Common.{◌≡◌, ◌≢◌, ℕ, zero, suc, ◌+◌, ◌<◌, ◌≤◌, ◌==◌, Bool, true, false, cond, List, [], ◌∷◌, ◌++◌, map, length, All, refl, sym, ap, ◌∙◌, subst, inl, inr, arith, Some, None, eq-eqb, ne_eqb}
+use Rattle.std.proofs.Common.{◌≡◌, ◌≢◌, ℕ, zero, suc, ◌+◌, ◌<◌, ◌≤◌, ◌^◌, ◌==◌, Bool, true, false, cond, List, [], ◌∷◌, ◌++◌, map, length, All, refl, sym, ap, ◌∙◌, subst, inl, inr, arith, Some, None, eq-eqb, ne_eqb}
 use Rattle.std.specs.Prelude.{slice_get, AllPairs}
 use Rattle.std.proofs.lemmas.Bool.{cases_eq, cases_lt, eqb-true, or_cases, both_ways}
 use Rattle.std.proofs.lemmas.List.{map-append}
@@ -17,29 +17,30 @@ use Rattle.np_flat.specs.Flats.{IsFlat}
 use Rattle.np_flat.specs.States.{has, subgoal_holds}
 use Rattle.np_flat.proofs.Runs.{step_there}
 use Rattle.np_relax.proofs.Closes.{map_or_true}
-use Rattle.np_table.specs.Tables.{Entry, IsAtMost, share, Achiever, IsEntry, IsGreatest}
-use Rattle.np_table.specs.Listed.{as_entry, entry_in, added, AreListed}
+use Rattle.np_table.specs.Tables.{Entry, IsAtMost, reach, share, Achiever, IsEntry, IsTable, IsGreatest}
+use Rattle.np_table.specs.Listed.{as_entry, entry_in}
+use Rattle.np_table.specs.Listing.{added, AreListed}
 use Rattle.np_table.proofs.Orders.{reach_same}
 
 -- what is above all that are listed isn't listed
-entry_absent : (xs : List (ℕ × Bound)) (q : ℕ) → All (λ e. e.0 < q) xs → entry_in xs q ≡ Some 0
+entry_absent : (xs : List (ℕ × Bound)) (q : ℕ) → All (λ e. e.0 < q) xs → entry_in as_entry xs q ≡ Some 0
 entry_absent [] q below = refl
 entry_absent (x ∷ xs) q below =
-    ap (λ b. cond b (as_entry x.1) (entry_in xs q)) (ne_eqb x.0 q (other x.0 q (All-head (λ (e : ℕ × Bound). e.0 < q) x xs below)))
+    ap (λ b. cond b (as_entry x.1) (entry_in as_entry xs q)) (ne_eqb x.0 q (other x.0 q (All-head (λ (e : ℕ × Bound). e.0 < q) x xs below)))
     ∙ entry_absent xs q (All-tail (λ (e : ℕ × Bound). e.0 < q) x xs below)
   where
     other : (m n : ℕ) → m < n → m ≡ n → ⊥
     other m n h e = omega arith
 
 -- one more leaves the others as they are
-entry_kept : (xs : List (ℕ × Bound)) (k q : ℕ) (b : Bound) → q ≢ k → entry_in (xs ++ (k, b) ∷ []) q ≡ entry_in xs q
+entry_kept : (xs : List (ℕ × Bound)) (k q : ℕ) (b : Bound) → q ≢ k → entry_in as_entry (xs ++ (k, b) ∷ []) q ≡ entry_in as_entry xs q
 entry_kept [] k q b ne = ap (λ t. cond t (as_entry b) (Some 0)) (ne_eqb k q (λ e. ne (sym e)))
 entry_kept (x ∷ xs) k q b ne = ap (λ e. cond (x.0 == q) (as_entry x.1) e) (entry_kept xs k q b ne)
 
-entry_new : (xs : List (ℕ × Bound)) (k : ℕ) (b : Bound) → All (λ e. e.0 < k) xs → entry_in (xs ++ (k, b) ∷ []) k ≡ as_entry b
+entry_new : (xs : List (ℕ × Bound)) (k : ℕ) (b : Bound) → All (λ e. e.0 < k) xs → entry_in as_entry (xs ++ (k, b) ∷ []) k ≡ as_entry b
 entry_new [] k b below = ap (λ t. cond t (as_entry b) (Some 0)) (eq-eqb k k refl)
 entry_new (x ∷ xs) k b below =
-    ap (λ t. cond t (as_entry x.1) (entry_in (xs ++ (k, b) ∷ []) k)) (ne_eqb x.0 k (other x.0 k (All-head (λ (e : ℕ × Bound). e.0 < k) x xs below)))
+    ap (λ t. cond t (as_entry x.1) (entry_in as_entry (xs ++ (k, b) ∷ []) k)) (ne_eqb x.0 k (other x.0 k (All-head (λ (e : ℕ × Bound). e.0 < k) x xs below)))
     ∙ entry_new xs k b (All-tail (λ (e : ℕ × Bound). e.0 < k) x xs below)
   where
     other : (m n : ℕ) → m < n → m ≡ n → ⊥
@@ -69,7 +70,7 @@ pushed f xs k b listed above is = record {
     above = All-push (λ (e : ℕ × Bound). as_entry e.1 ≢ Some 0) xs (k, b) listed.are.above above;
   };
   same = λ q lt. elim (cases_eq q k) [
-    | inl e ↦ subst (λ i. entry_in (xs ++ (k, b) ∷ []) i ≡ f i) (sym e) (entry_new xs k b listed.are.within ∙ is)
+    | inl e ↦ subst (λ i. entry_in as_entry (xs ++ (k, b) ∷ []) i ≡ f i) (sym e) (entry_new xs k b listed.are.within ∙ is)
     | inr ne ↦ entry_kept xs k q b ne ∙ listed.same q (before q lt ne)
   ];
 }
@@ -92,7 +93,7 @@ passed f xs k listed is = record {
     above = listed.are.above;
   };
   same = λ q lt. elim (cases_eq q k) [
-    | inl e ↦ subst (λ i. entry_in xs i ≡ f i) (sym e) (entry_absent xs k listed.are.within ∙ sym is)
+    | inl e ↦ subst (λ i. entry_in as_entry xs i ≡ f i) (sym e) (entry_absent xs k listed.are.within ∙ sym is)
     | inr ne ↦ listed.same q (before q lt ne)
   ];
 }
@@ -132,22 +133,28 @@ module _ (task : Parts) (s : FlatState) (f g : ℕ → Entry) (flat : IsFlat tas
   entry_same q (subgoal.NotFact p) e is = λ o r by. subst (λ x. IsAtMost x (Some (o.cost + r))) e (is o r (achiever (subgoal.NotFact p) o r by))
   entry_same q (subgoal.Form form) e is = λ o u r m by pays. subst (λ x. IsAtMost x (Some (r + share s form u))) e (is o u r m (achiever (subgoal.Form form) o r by) (achiever (subgoal.Form form) u m pays))
 
+  pub same_table : ((q n : ℕ) → length task.subgoals ≤ q → g q ≡ Some n → n < 2 ^ 62) → IsTable task s f → IsTable task s g
+  same_table past is = record {
+    small = λ q n h. elim (cases_lt q (length task.subgoals)) [
+      | inl lt ↦ is.small q n (same q lt ∙ h)
+      | inr ge ↦ past q n ge h
+    ];
+    true_ones = λ q h. let goal = map_or_true (subgoal_holds s) (slice_get task.subgoals q) h in sym (same q (slice_get_within task.subgoals q goal.0 goal.1)) ∙ is.true_ones q h;
+    bounded = λ q goal of. entry_same q goal (same q (slice_get_within task.subgoals q goal of)) (is.bounded q goal of);
+  }
+
+  pub same_reach : (numbers : List ℕ) → All (λ q. q < length task.subgoals) numbers → reach f numbers ≡ reach g numbers
+  same_reach numbers within = reach_same f g numbers (λ q h. same q (has_within (length task.subgoals) numbers within q h))
+
   pub same_greatest : ((q : ℕ) → length task.subgoals ≤ q → g q ≡ Some 0) → IsGreatest task s f → IsGreatest task s g
   same_greatest past is = record {
-    table = record {
-      small = λ q n h. elim (cases_lt q (length task.subgoals)) [
-        | inl lt ↦ is.table.small q n (same q lt ∙ h)
-        | inr ge ↦ let zero : 0 ≡ n = same_Some 0 n (sym (past q ge) ∙ h) in omega arith
-      ];
-      true_ones = λ q h. let goal = map_or_true (subgoal_holds s) (slice_get task.subgoals q) h in sym (same q (slice_get_within task.subgoals q goal.0 goal.1)) ∙ is.table.true_ones q h;
-      bounded = λ q goal of. entry_same q goal (same q (slice_get_within task.subgoals q goal of)) (is.table.bounded q goal of);
-    };
+    table = same_table (λ q n ge h. let zero : 0 ≡ n = same_Some 0 n (sym (past q ge) ∙ h) in omega arith) is.table;
     greatest = λ others of q lt. subst (IsAtMost (others q)) (same q lt) (is.greatest others of q lt);
   }
 
-pub listed_greatest : (task : Parts) (s : FlatState) (entries : ℕ → Entry) (numbers : List (ℕ × Bound)) → IsFlat task → AreListed entries (length task.subgoals) numbers → IsGreatest task s entries → IsGreatest task s (entry_in numbers)
+pub listed_greatest : (task : Parts) (s : FlatState) (entries : ℕ → Entry) (numbers : List (ℕ × Bound)) → IsFlat task → AreListed entries (length task.subgoals) numbers → IsGreatest task s entries → IsGreatest task s (entry_in as_entry numbers)
 listed_greatest task s entries numbers flat listed is =
-    same_greatest task s entries (entry_in numbers) flat (λ q lt. sym (listed.same q lt))
+    same_greatest task s entries (entry_in as_entry numbers) flat (λ q lt. sym (listed.same q lt))
     (λ q ge. entry_absent numbers q (All-weaker (λ (e : ℕ × Bound). e.0 < length task.subgoals) (λ e. e.0 < q) (λ e h. less e.0 q h ge) numbers listed.are.within)) is
   where
     less : (n q : ℕ) → n < length task.subgoals → length task.subgoals ≤ q → n < q

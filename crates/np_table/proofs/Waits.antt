@@ -2,7 +2,7 @@
 use Rattle.std.proofs.Common.{◌≡◌, ℕ, ◌+◌, ◌≤◌, ◌==◌, Bool, true, false, cond, List, set, sym, ap, ◌∙◌, inl, inr, arith, eq-eqb}
 use Rattle.std.proofs.lemmas.Bool.{cases_eq}
 use Rattle.std.proofs.lemmas.List.{get_or-set_other}
-use Rattle.np_relax.specs.Work.{on}
+use Rattle.np_relax.specs.Closed.{on}
 
 -- one more is put in and marked
 pub put_waits : (marks : List Bool) (subgoal : ℕ) (before now : ℕ → ℕ) → ((q : ℕ) → now q ≡ cond (subgoal == q) 1 0 + before q) → ((q : ℕ) → on marks q ≡ true → 1 ≤ before q)

@@ -8,8 +8,8 @@ use Rattle.np_flat.specs.Plans.{cost_of}
 use Rattle.np_flat.specs.Achieving.{achieved_by}
 use Rattle.np_relax.specs.Needing.{needs_of}
 use Rattle.np_relax.specs.Work.{achieved}
-use Rattle.np_table.specs.Tables.{Entry, IsAtMost, reach}
-use Rattle.np_table.specs.Lowering.{at, unit_at, capped, weight_by}
+use Rattle.np_table.specs.Tables.{Entry, IsAtMost, reach, at}
+use Rattle.np_table.specs.Lowering.{unit_at, capped, weight_by}
 use Rattle.np_table.specs.Units.{paid}
 
 -- the smaller of an entry and a number

@@ -1,6 +1,7 @@
 pub mod Given
 pub mod Laws
 pub mod Listed
+pub mod Listing
 pub mod Lowering
 pub mod Tables
 pub mod Units

@@ -11,12 +11,9 @@ use Rattle.np_flat.specs.States.{has, holds}
 use Rattle.np_flat.specs.Plans.{cost_of}
 use Rattle.np_flat.specs.Achieving.{achieves, achieved_by}
 use Rattle.np_relax.specs.Needing.{needs_of}
-use Rattle.np_relax.specs.Work.{on, achieved}
-use Rattle.np_table.specs.Tables.{Entry, IsAtMost, reach, share, IsTable}
-
--- the entry of this number
-abbrev pub at : List Entry → ℕ → Entry
-at entries q = slice_index_or entries q None
+use Rattle.np_relax.specs.Closed.{on}
+use Rattle.np_relax.specs.Work.{achieved}
+use Rattle.np_table.specs.Tables.{Entry, at, IsAtMost, reach, share, IsTable}
 
 abbrev pub unit_at : List ℕ → ℕ → ℕ
 unit_at units q = slice_index_or units q 0

@@ -1,5 +1,5 @@
 -- Lower bounds on what it costs to come to each subgoal (max-cost, Bonet and Geffner 2001; for forms this project's own).
-use Rattle.std.specs.Prelude.{◌≡◌, ℕ, ◌+◌, ◌-◌, ◌*◌, ◌/◌, ◌<◌, ◌≤◌, ◌^◌, max, true, List, [], ◌∷◌, length, slice_get, unsigned_abs, Option, Some, None}
+use Rattle.std.specs.Prelude.{◌≡◌, ℕ, ◌+◌, ◌-◌, ◌*◌, ◌/◌, ◌<◌, ◌≤◌, ◌^◌, max, true, List, [], ◌∷◌, length, slice_get, slice_index_or, unsigned_abs, Option, Some, None}
 use Rattle.np_flat.specs.declared.state.FlatState.{FlatState}
 use Rattle.np_flat.specs.declared.parts.Form.{Form}
 use Rattle.np_flat.specs.declared.parts.Subgoal.{Subgoal}
@@ -12,6 +12,10 @@ use Rattle.np_flat.specs.Achieving.{net, achieves}
 -- an entry is a number, or none, which is above all numbers
 abbrev pub Entry : Type 0
 Entry = Option ℕ
+
+-- the entry of this number
+abbrev pub at : List Entry → ℕ → Entry
+at entries q = slice_index_or entries q None
 
 abbrev pub IsAtMost : Entry → Entry → Type 0
 IsAtMost e None = Unit {0}
@@ -38,7 +42,7 @@ reach entries (q ∷ qs) = larger (entries q) (reach entries qs)
 abbrev pub over_up : ℕ → ℕ → ℕ
 over_up x y = (x + (y - 1)) / y
 
--- what a step that raises a form costs at least by unit: the lack times its cost over its net change, rounded up
+-- where a form is false, what a step that raises it costs at least by unit: the lack times its cost over its net change, rounded up
 abbrev pub share : FlatState → Form → FlatStep → ℕ
 share s form step = over_up (unsigned_abs (form_value form s) * step.cost) (unsigned_abs (net step form))
 

@@ -2,7 +2,7 @@
 use Rattle.std.specs.Prelude.{◌≡◌, ℕ, ◌≤◌, ◌==◌, ◌+◌, List, true, if◌then◌else◌}
 use Rattle.std.specs.List.{sum_by}
 use Rattle.std.specs.BinaryHeap.{heap_items}
-use Rattle.np_relax.specs.Work.{on}
+use Rattle.np_relax.specs.Closed.{on}
 use Rattle.np_table.specs.Tables.{Entry}
 use Rattle.np_table.specs.Lowering.{height}
 use Rattle.np_table.specs.declared.waiting.Waiting.{Waiting}

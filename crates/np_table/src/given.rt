@@ -4,8 +4,8 @@ ghost use Rattle.np_flat.specs.declared.parts.FlatStep.{FlatStep};
 ghost use Rattle.np_flat.specs.Flats.{IsStateOf, AreSmall};
 ghost use Rattle.np_flat.specs.States.{holds};
 ghost use Rattle.np_relax.specs.Needing.{needs_of};
-ghost use Rattle.np_table.specs.Tables.{reach, IsTable};
-ghost use Rattle.np_table.specs.Lowering.{at, weight_by};
+ghost use Rattle.np_table.specs.Tables.{reach, IsTable, at};
+ghost use Rattle.np_table.specs.Lowering.{weight_by};
 ghost use Rattle.np_table.specs.Given.{lesser, noted, noted_by, is_at_most, is_fit, limit_by, is_good, AreGood, paid_by};
 
 use crate::lower::{capped_sum, needs, reached};

@@ -15,4 +15,5 @@ mod waiting;
 
 pub use given::Judge;
 pub use laws::{tables_bound, tables_bound_plans};
+pub use lower::reached;
 pub use tables::{TableAt, greatest, table};

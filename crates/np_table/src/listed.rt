@@ -1,8 +1,8 @@
 //! A table as the list of its entries above 0.
 ghost use Rattle.std.specs.Prelude.{◌≡◌, length, IfOk, OnOk};
 ghost use Rattle.np_flat.specs.Flats.{IsFlat};
-ghost use Rattle.np_table.specs.Lowering.{at};
-ghost use Rattle.np_table.specs.Listed.{added, AreListed};
+ghost use Rattle.np_table.specs.Tables.{at};
+ghost use Rattle.np_table.specs.Listing.{added, AreListed};
 
 use np_flat::Flat;
 use np_space::Bound;

@@ -3,11 +3,10 @@ ghost use Rattle.std.specs.Prelude.{◌≡◌, ◌<◌, ◌≤◌, ◌+◌, ◌�
 ghost use Rattle.std.specs.Prelude.{IfOk, OnOk, false, Some, None, if◌then◌else◌};
 ghost use Rattle.np_flat.specs.Flats.{IsStateOf, AreSmall};
 ghost use Rattle.np_flat.specs.States.{holds};
-ghost use Rattle.np_relax.specs.Work.{on};
 ghost use Rattle.np_relax.specs.Needing.{needs_of, IsNeeding};
-ghost use Rattle.np_relax.specs.Closed.{IsLeast};
-ghost use Rattle.np_table.specs.Tables.{reach, larger, IsGreatest};
-ghost use Rattle.np_table.specs.Lowering.{at, capped, is_below, weight, lowered, settled, all_settled, AreUnits};
+ghost use Rattle.np_relax.specs.Closed.{IsLeast, on};
+ghost use Rattle.np_table.specs.Tables.{reach, larger, IsGreatest, at};
+ghost use Rattle.np_table.specs.Lowering.{capped, is_below, weight, lowered, settled, all_settled, AreUnits};
 ghost use Rattle.np_table.specs.Waiting.{left, IsWaiting};
 
 use crate::waiting::Waiting;
@@ -28,8 +27,9 @@ fn larger(a: Option<u64>, b: Option<u64>) -> Option<u64>
     }
 }
 
-/// The largest entry among these.
-pub(crate) fn reached(entries: &[Option<u64>], numbers: &[u32]) -> Option<u64>
+/// The largest of the entries that have these numbers, 0 where there are none. No entry is larger than each number. It takes no
+/// memory.
+pub fn reached(entries: &[Option<u64>], numbers: &[u32]) -> Option<u64>
     requires { All (λ q. q < length entries.now) numbers.now }
     ensures { result ≡ reach (at entries.now) numbers.now }
 {

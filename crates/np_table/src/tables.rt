@@ -2,9 +2,8 @@
 ghost use Rattle.std.specs.Prelude.{◌≡◌, length, IfOk};
 ghost use Rattle.np_flat.specs.Flats.{IsStateOf, AreSmall};
 ghost use Rattle.np_relax.specs.Needing.{IsNeeding};
-ghost use Rattle.np_table.specs.Tables.{IsGreatest};
-ghost use Rattle.np_table.specs.Lowering.{at};
-ghost use Rattle.np_table.specs.Listed.{entry_in, AreEntries};
+ghost use Rattle.np_table.specs.Tables.{IsGreatest, at};
+ghost use Rattle.np_table.specs.Listed.{as_entry, entry_in, AreEntries};
 
 use crate::listed::listed;
 use crate::lower::entries;
@@ -32,7 +31,7 @@ pub fn table(
     requires needing { IsNeeding flat.now needing.now }
     requires state { IsStateOf flat.now state.now }
     requires small { AreSmall state.now.values }
-    ensures greatest { IfOk result (λ table. IsGreatest flat.now state.now (entry_in table.numbers.items)) }
+    ensures greatest { IfOk result (λ table. IsGreatest flat.now state.now (entry_in as_entry table.numbers.items)) }
     ensures entries { IfOk result (λ table. AreEntries (length flat.now.subgoals) table.numbers.items) }
 {
     let entries = greatest(alloc, flat, needing, state)?;

@@ -4,7 +4,8 @@ ghost use Rattle.std.specs.List.{list_all};
 ghost use Rattle.np_flat.specs.declared.limits.TheConstants.{COST_SIZE};
 ghost use Rattle.np_flat.specs.declared.parts.FlatStep.{FlatStep};
 ghost use Rattle.np_flat.specs.Flats.{IsStateOf, IsForm, AreSmall};
-ghost use Rattle.np_relax.specs.Work.{on, achieved};
+ghost use Rattle.np_relax.specs.Closed.{on};
+ghost use Rattle.np_relax.specs.Work.{achieved};
 ghost use Rattle.np_table.specs.Lowering.{AreUnits};
 ghost use Rattle.np_table.specs.Units.{form_share, share_by, paid};
 

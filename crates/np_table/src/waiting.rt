@@ -3,7 +3,7 @@ ghost use Rattle.std.specs.Prelude.{◌≡◌, ◌<◌, ◌≤◌, ◌==◌, ◌
 ghost use Rattle.std.specs.Prelude.{slice_set, IfOk, OnOk, IfSome, if◌then◌else◌};
 ghost use Rattle.std.specs.List.{sum_by};
 ghost use Rattle.std.specs.BinaryHeap.{heap_items};
-ghost use Rattle.np_relax.specs.Work.{on};
+ghost use Rattle.np_relax.specs.Closed.{on};
 ghost use Rattle.np_table.specs.Waiting.{times, size, IsWaiting};
 
 use std::alloc::{AllocError, Global};

@@ -1,5 +1,5 @@
 use Rattle.std.proofs.Common.{◌≡◌, ◌<◌, ℕ, length}
-use Rattle.np_relax.specs.Work.{on}
+use Rattle.np_relax.specs.Closed.{on}
 use Rattle.np_cuts.specs.Cuts.{counts}
 use Rattle.np_cuts.proofs.sharpen.counted.Given as goal
 

@@ -1,5 +1,5 @@
 use Rattle.std.proofs.Common.{◌∙◌, ap, not}
-use Rattle.np_relax.specs.Work.{on}
+use Rattle.np_relax.specs.Closed.{on}
 use Rattle.np_cuts.proofs.Lists.{filter_yes, filter_no}
 use Rattle.np_cuts.proofs.sharpen.outside.Goals as goal
 use Rattle.np_cuts.proofs.sharpen.outside.Goals.{then-not-can-subgoal+in_ok-push, else-not-can-subgoal}

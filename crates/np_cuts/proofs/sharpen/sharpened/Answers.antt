@@ -1,6 +1,6 @@
 use Rattle.std.proofs.Common.{◌∙◌, ap}
 use Rattle.np_count.specs.declared.proof.Row.TheVariants as row
-use Rattle.np_relax.specs.Work.{on}
+use Rattle.np_relax.specs.Closed.{on}
 use Rattle.np_cuts.specs.Cuts.{outside}
 use Rattle.np_cuts.proofs.Lists.{is_sharpened}
 use Rattle.np_cuts.proofs.sharpen.sharpened.Goals as goal

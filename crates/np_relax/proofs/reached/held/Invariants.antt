@@ -1,6 +1,6 @@
 use Rattle.std.proofs.Common.{◌≡◌, ◌<◌, ℕ, length}
 use Rattle.np_flat.specs.States.{holds}
-use Rattle.np_relax.specs.Work.{on}
+use Rattle.np_relax.specs.Closed.{on}
 use Rattle.np_relax.proofs.reached.held.Given as goal
 
 abbrev pub invariant-loop-subgoal : goal.invariant-loop-subgoal

@@ -1,6 +1,7 @@
 use Rattle.std.proofs.Common.{◌≡◌, ◌<◌, ℕ, true}
 use Rattle.np_flat.specs.States.{holds}
-use Rattle.np_table.specs.Lowering.{at, unit_at}
+use Rattle.np_table.specs.Tables.{at}
+use Rattle.np_table.specs.Lowering.{unit_at}
 use Rattle.np_table.specs.Given.{is_good}
 use Rattle.np_table.proofs.given.are_good.Given as goal
 

@@ -1,7 +1,8 @@
 use Rattle.std.proofs.Common.{◌≡◌, ◌<◌, ℕ, ◌∙◌, ap, sym, subst, length, arith, true, List, Option}
 use Rattle.np_flat.specs.declared.parts.Parts.{Parts}
 use Rattle.np_flat.specs.States.{holds}
-use Rattle.np_table.specs.Lowering.{at, unit_at, AreUnits}
+use Rattle.np_table.specs.Tables.{at}
+use Rattle.np_table.specs.Lowering.{unit_at, AreUnits}
 use Rattle.np_table.specs.Given.{IsNoted, is_number, is_good}
 use Rattle.np_table.proofs.Pays.{all_paid}
 use Rattle.np_table.proofs.Allows.{noted_more, shares_more}

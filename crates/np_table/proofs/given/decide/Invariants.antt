@@ -1,4 +1,4 @@
-use Rattle.np_table.specs.Lowering.{at}
+use Rattle.np_table.specs.Tables.{at}
 use Rattle.np_table.specs.Units.{IsPaid}
 use Rattle.np_table.specs.Given.{IsNoted, is_number}
 use Rattle.np_table.proofs.given.decide.Given as goal

@@ -9,8 +9,7 @@ use Rattle.np_flat.specs.Plans.{cost_of}
 use Rattle.np_relax.specs.Needing.{needs_of}
 use Rattle.np_relax.specs.Work.{achieved}
 use Rattle.np_relax.proofs.Achieved.{achieved_one, achieved_within}
-use Rattle.np_table.specs.Tables.{reach}
-use Rattle.np_table.specs.Lowering.{at}
+use Rattle.np_table.specs.Tables.{reach, at}
 use Rattle.np_table.specs.Units.{paid}
 use Rattle.np_table.specs.Given.{noted, noted_by, is_number}
 use Rattle.np_table.proofs.given.note_step.Goals as goal

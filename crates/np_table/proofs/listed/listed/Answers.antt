@@ -1,7 +1,7 @@
 use Rattle.std.proofs.Common.{◌<◌, None, ap, sym, ◌∙◌, subst, length}
 use Rattle.std.proofs.lemmas.List.{get_or_default}
 use Rattle.np_flat.specs.declared.parts.Parts.{Parts}
-use Rattle.np_table.specs.Lowering.{at}
+use Rattle.np_table.specs.Tables.{at}
 use Rattle.np_table.proofs.Listing.{listed_more}
 use Rattle.np_table.proofs.listed.listed.Goals as goal
 

@@ -1,5 +1,5 @@
-use Rattle.np_table.specs.Lowering.{at}
-use Rattle.np_table.specs.Listed.{AreListed}
+use Rattle.np_table.specs.Tables.{at}
+use Rattle.np_table.specs.Listing.{AreListed}
 use Rattle.np_table.proofs.listed.listed.Given as goal
 
 abbrev pub invariant-loop-subgoal : goal.invariant-loop-subgoal

@@ -1,7 +1,7 @@
 use Rattle.std.proofs.Common.{◌≡◌, ◌<◌, true, refl, sym, ◌∙◌, ap, subst, length}
 use Rattle.np_flat.specs.declared.parts.Parts.{Parts}
 use Rattle.np_flat.specs.States.{has}
-use Rattle.np_relax.specs.Work.{on}
+use Rattle.np_relax.specs.Closed.{on}
 use Rattle.np_table.proofs.Falls.{fell_begin, fell_first, fell_on, fallen_greatest}
 use Rattle.np_table.proofs.lower.entries.Goals as goal
 

@@ -1,5 +1,5 @@
 use Rattle.std.proofs.Common.{◌+◌}
-use Rattle.np_relax.specs.Work.{on}
+use Rattle.np_relax.specs.Closed.{on}
 use Rattle.np_table.specs.Lowering.{height, IsFalling}
 use Rattle.np_table.specs.Waiting.{size, IsWaiting}
 use Rattle.np_table.proofs.lower.entries.Given as goal

@@ -1,6 +1,7 @@
 use Rattle.std.proofs.Common.{◌≡◌, ◌<◌, ◌+◌, ◌∙◌, ap, sym, subst, refl, length, None, arith}
 use Rattle.std.proofs.lemmas.List.{get_or_default}
-use Rattle.np_table.specs.Lowering.{at, is_below}
+use Rattle.np_table.specs.Tables.{at}
+use Rattle.np_table.specs.Lowering.{is_below}
 use Rattle.np_table.specs.Waiting.{size}
 use Rattle.np_table.proofs.Falls.{lowered_less, cap_small}
 use Rattle.np_table.proofs.lower.lower_one.Goals as goal

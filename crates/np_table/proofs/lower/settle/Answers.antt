@@ -3,8 +3,8 @@ use Rattle.std.specs.Result.{OnOk}
 use Rattle.np_relax.specs.Needing.{needs_of}
 use Rattle.np_relax.specs.Work.{achieved}
 use Rattle.np_relax.proofs.Achieved.{achieved_one, achieved_within}
-use Rattle.np_table.specs.Tables.{reach}
-use Rattle.np_table.specs.Lowering.{at, settled_by, lowered}
+use Rattle.np_table.specs.Tables.{reach, at}
+use Rattle.np_table.specs.Lowering.{settled_by, lowered}
 use Rattle.np_table.proofs.lower.settle.Goals as goal
 
 pub lower-requires-clause-subgoals : goal.lower-requires-clause-subgoals

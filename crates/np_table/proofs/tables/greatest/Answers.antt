@@ -1,6 +1,5 @@
 use Rattle.std.proofs.Common.{false, sym, subst}
-use Rattle.np_relax.specs.Closed.{IsLeast}
-use Rattle.np_relax.specs.Work.{on}
+use Rattle.np_relax.specs.Closed.{IsLeast, on}
 use Rattle.np_table.proofs.Falls.{none_removed}
 use Rattle.np_table.proofs.tables.greatest.Goals as goal
 

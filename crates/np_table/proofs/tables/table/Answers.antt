@@ -1,6 +1,6 @@
 use Rattle.std.proofs.Common.{subst, length}
-use Rattle.np_table.specs.Lowering.{at}
-use Rattle.np_table.specs.Listed.{AreListed}
+use Rattle.np_table.specs.Tables.{at}
+use Rattle.np_table.specs.Listing.{AreListed}
 use Rattle.np_table.proofs.Listing.{listed_greatest}
 use Rattle.np_table.proofs.tables.table.Goals as goal
 

@@ -1,7 +1,8 @@
 use Rattle.std.proofs.Common.{◌≡◌, ◌<◌, All, Some, refl, sym, ◌∙◌, ap, subst, length, get_or, slice_get}
 use Rattle.std.proofs.lemmas.Option.{slice_get_read}
 use Rattle.np_flat.specs.declared.parts.Parts.{Parts}
-use Rattle.np_relax.specs.Work.{on, achieved}
+use Rattle.np_relax.specs.Closed.{on}
+use Rattle.np_relax.specs.Work.{achieved}
 use Rattle.np_relax.proofs.Achieved.{achieved_one, achieved_within}
 use Rattle.np_table.proofs.Pays.{paid_is}
 use Rattle.np_table.proofs.units.pay_step.Goals as goal

@@ -1,6 +1,6 @@
 use Rattle.std.proofs.Common.{◌≡◌, ◌∙◌, ap, length, arith}
 use Rattle.np_flat.specs.declared.parts.Parts.{Parts}
-use Rattle.np_relax.specs.Work.{on}
+use Rattle.np_relax.specs.Closed.{on}
 use Rattle.np_table.proofs.Pays.{paid_none, paid_step, all_paid}
 use Rattle.np_table.proofs.units.units.Goals as goal
 

@@ -1,4 +1,4 @@
-use Rattle.np_relax.specs.Work.{on}
+use Rattle.np_relax.specs.Closed.{on}
 use Rattle.np_table.specs.Units.{IsPaid}
 use Rattle.np_table.proofs.units.units.Given as goal
 
