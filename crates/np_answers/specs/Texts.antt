@@ -13,7 +13,7 @@ use Rattle.np_cert.specs.declared.certificate.Limit.TheVariants.{Number, Absent}
 use Rattle.np_answers.specs.declared.answer.File.{File}
 use Rattle.np_answers.specs.declared.answer.File.TheVariants.{Domain, Problem, Certificate, Plan}
 use Rattle.np_answers.specs.declared.answer.refusal.Refusal.{Refusal}
-use Rattle.np_answers.specs.declared.answer.refusal.Refusal.TheVariants.{TooLong, Syntax, NumberWide, Typing, StampOrder, UnknownStep, StepWide, Task, AtSpot, CertificateNotBuilt}
+use Rattle.np_answers.specs.declared.answer.refusal.Refusal.TheVariants.{TooLong, Syntax, NumberWide, Typing, StampOrder, UnknownStep, StepWide, Task, AtSpot}
 use Rattle.np_answers.specs.declared.answer.refusal.TaskReason.{TaskReason}
 use Rattle.np_answers.specs.declared.answer.refusal.TaskReason.TheVariants as task
 use Rattle.np_answers.specs.declared.answer.refusal.SpotReason.{SpotReason}
@@ -86,7 +86,6 @@ refusal_text (UnknownStep place) = text_at Plan place (codes "unknown step")
 refusal_text (StepWide step) = codes "Refused: number wide: plan step " ++ decimal step ++ codes "\n"
 refusal_text (Task reason) = codes "Refused: " ++ task_reason_text reason ++ codes "\n"
 refusal_text (AtSpot reason text) = codes "Refused: " ++ spot_reason_text reason ++ codes ": " ++ text ++ codes "\n"
-refusal_text CertificateNotBuilt = codes "Refused: not built yet\n"
 
 abbrev pub solve_text : SolveAnswer → List ℕ
 solve_text (Optimal cost) = codes "Optimal " ++ decimal cost ++ codes ", weak 0\n"

@@ -175,7 +175,7 @@ fn all_are_unfit(rt: &(impl Abort + AllocGlobal), flat: &Flat) -> bool {
     true
 }
 
-/// Whether a proof that isn't there and a table are refused.
+/// Whether a proof that isn't there and a table without numbers support no bound above 0.
 fn are_no_reasons(rt: &(impl Abort + AllocGlobal), flat: &Flat) -> bool {
     is_no_reason(rt, flat, Why::Proof(0))
         && is_no_reason(rt, flat, Why::Table(Items::new(rt.alloc())))

@@ -5,4 +5,3 @@ pub mod ReadingLexemes
 pub mod ReadingNumbers
 pub mod ReadingStarts
 pub mod ReadingTexts
-pub mod Thin

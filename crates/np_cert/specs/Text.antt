@@ -1,6 +1,5 @@
 -- The text of certificates: each has one list of lexemes, and bytes spell it where theirs are these. The format is this project's own.
-use Rattle.std.specs.Prelude.{◌≡◌, ℕ, ◌^◌, ◌<◌, ℤ, pos, negsuc, suc, unsigned_abs, ⊤, Bool, true, false, List, [], ◌++◌, length, All, Some, codes, decimal}
-use Rattle.std.specs.List.{list_any}
+use Rattle.std.specs.Prelude.{◌≡◌, ℕ, ◌^◌, ◌<◌, ℤ, pos, negsuc, suc, unsigned_abs, ⊤, List, [], ◌++◌, length, All, Some, codes, decimal}
 use Rattle.np_lex.specs.Tokens.{Lexeme}
 use Rattle.np_read.specs.Lexemes.{lexemes}
 use Rattle.np_read.specs.Printers.{Printed, all, left, right, name, number}
@@ -123,15 +122,6 @@ pub record IsWritten (c : Certificate) : Type 0 where
 pub record Spells (bytes : List ℕ) (c : Certificate) : Type 0 where
   pub written : IsWritten c
   pub lexemes_are : lexemes bytes ≡ Some (certificate c)
-
--- whether a reason is a table
-abbrev pub is_table : Why → Bool
-is_table (why.Table numbers) = true
-is_table reason = false
-
--- whether the reason of some entry is a table
-abbrev pub has_table : Certificate → Bool
-has_table c = list_any (λ e. is_table e.why) c.entries
 
 -- a certificate of the thin form: no proofs, and each entry by expansion
 pub record IsThin (c : Certificate) : Type 0 where

@@ -1,5 +1,5 @@
--- When an entry is justified, and a certificate valid. These definitions are this project's own. Tables aren't built yet, so no entry is justified by one.
-use Rattle.std.specs.Prelude.{◌≡◌, ℕ, ◌+◌, ◌^◌, ◌<◌, ◌≤◌, nat_le, nat_lt, Bool, true, false, ◌⊎◌, List, [], ◌∷◌, All, Some, slice_get, IsTrue, if◌then◌else◌}
+-- When an entry is justified, and a certificate valid. These definitions are this project's own.
+use Rattle.std.specs.Prelude.{◌≡◌, ℕ, ◌+◌, ◌^◌, ◌<◌, ◌≤◌, nat_le, nat_lt, Bool, true, false, ◌⊎◌, List, [], ◌∷◌, All, length, map, Some, None, slice_get, IsTrue, if◌then◌else◌}
 use Rattle.std.specs.Option.{option_map_or}
 use Rattle.np_space.specs.declared.bound.Bound.{Bound}
 use Rattle.np_space.specs.declared.bound.Bound.TheVariants as bound
@@ -10,7 +10,10 @@ use Rattle.np_flat.specs.declared.parts.Parts.{Parts}
 use Rattle.np_flat.specs.Same.{same_state}
 use Rattle.np_flat.specs.States.{is_goal, next}
 use Rattle.np_flat.specs.Plans.{cost_of}
-use Rattle.np_flat.specs.Flats.{IsStateOf, AreWithinLimit}
+use Rattle.np_flat.specs.Flats.{IsStateOf, AreNumbers, AreWithinLimit}
+use Rattle.np_table.specs.Tables.{IsTable, reach}
+use Rattle.np_table.specs.Tables as table
+use Rattle.np_table.specs.Listed.{entry_in}
 use Rattle.np_cert.specs.declared.limit.TheConstants.{LIMIT_SIZE}
 use Rattle.np_cert.specs.declared.certificate.Limit.{Limit}
 use Rattle.np_cert.specs.declared.certificate.Limit.TheVariants.{Number, Absent}
@@ -70,11 +73,29 @@ is_met_by task e proof = option_map_or (λ b. at_most e.bound (limit_of b)) (pro
 abbrev pub is_proved : Parts → List Proof → Entry → ℕ → Bool
 is_proved task proofs e number = option_map_or (is_met_by task e) (slice_get proofs number) false
 
--- the reason of an entry supports its bound: by expansion, the bound is 0 or the entry is expanded; by a proof, the proof bounds it
+-- a limit as an entry of a table; that there is no plan as none
+abbrev pub as_entry : Limit → table.Entry
+as_entry (Number n) = Some n
+as_entry Absent = None
+
+-- an entry of a table as a limit
+abbrev pub as_limit : table.Entry → Limit
+as_limit (Some n) = Number n
+as_limit None = Absent
+
+-- ascending subgoals of the task are listed, what they are given is a table at the entry's state, where the others have 0, and the entry's bound is at
+-- most the largest of the goal's subgoals, 0 where the goal has none
+pub record IsTabled (task : Parts) (e : Entry) (numbers : List (ℕ × Limit)) : Type 0 where
+  pub subgoals : AreNumbers (length task.subgoals) (map (λ x. x.0) numbers)
+  pub table : IsTable task e.state (entry_in as_entry numbers)
+  pub bounded : IsTrue (at_most e.bound (as_limit (reach (entry_in as_entry numbers) task.goal)))
+
+-- the reason of an entry supports its bound: by expansion, the bound is 0 or the entry is expanded; by a proof, the proof bounds it; by a table, the
+-- table does
 abbrev pub Supports : Parts → List Proof → List Entry → Entry → Why → Type 0
 Supports task proofs entries e why.Expanded = (e.bound ≡ Number 0) ⊎ IsExpanded task entries e
 Supports task proofs entries e (why.Proof number) = IsTrue (is_proved task proofs e number)
-Supports task proofs entries e (why.Table numbers) = ⊥
+Supports task proofs entries e (why.Table numbers) = IsTabled task e numbers
 
 -- an entry is justified: it fits, and its reason supports its bound
 pub record IsJustified (task : Parts) (proofs : List Proof) (entries : List Entry) (e : Entry) : Type 0 where

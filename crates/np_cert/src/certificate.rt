@@ -38,6 +38,6 @@ pub enum Why {
     Expanded,
     /// By the proof of this number.
     Proof(u128),
-    /// By the numbers of a table of subgoals, ascending.
+    /// By a table: numbers for ascending subgoals; the others have 0.
     Table(Items<(u128, Limit)>),
 }

@@ -9,7 +9,6 @@ pub mod laws;
 mod limit;
 mod print;
 mod read;
-mod reasons;
 
 pub use certificate::{Certificate, Entry, Limit, Why};
 pub use limit::LIMIT_SIZE;

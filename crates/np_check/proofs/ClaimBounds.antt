@@ -15,12 +15,15 @@ use Rattle.np_count.specs.declared.proof.Proof.{Proof}
 use Rattle.np_cert.specs.declared.certificate.Why.{Why}
 use Rattle.np_cert.specs.declared.certificate.Why.TheVariants as why
 use Rattle.np_cert.specs.declared.certificate.Entry.{Entry}
-use Rattle.np_cert.specs.Valid.{at_most, after_cost, bound_at, limit_of, is_met_by, is_proved, IsFitting, Supports, IsJustified, IsExpanded, IsValidProof}
+use Rattle.np_cert.specs.Valid.{at_most, after_cost, bound_at, limit_of, as_entry, as_limit, is_met_by, is_proved, IsFitting, IsTabled, Supports, IsJustified, IsExpanded, IsValidProof}
 use Rattle.np_space.specs.Bounds.{IsAtMostCost}
 use Rattle.np_space.specs.declared.bound.Bound.{Bound}
 use Rattle.np_space.specs.declared.bound.Bound.TheVariants as bound
 use Rattle.np_count.specs.Bounds.{proof_bound}
 use Rattle.np_count.proofs.Plans.{proofs_bound}
+use Rattle.np_table.specs.Tables.{IsUnder, reach}
+use Rattle.np_table.specs.Listed.{entry_in}
+use Rattle.np_table.proofs.Bounds.{tables_bound_plans}
 use Rattle.np_check.specs.Bounds.{ClaimBounds}
 
 -- 0 is at most every limit that is a number
@@ -75,6 +78,19 @@ module _ (task : Parts) (flat : IsFlat task) (e : Entry) (fits : IsFitting task 
       by None there h = absurd (true≢false (sym h))
       by (Some proof) there h = met proof (valid_at task proofs number proof valid there) h
 
+-- ---- tables
+
+-- a limit that is at most a number of a table is at most each cost that the number is
+below_entry : (limit : Limit) (most : Option ℕ) (cost : ℕ) → IsTrue (at_most limit (as_limit most)) → IsUnder most cost → IsTrue (at_most limit (Number cost))
+below_entry limit (Some n) cost h le = at_most_trans limit (Number n) cost h (le-leb n cost le)
+below_entry limit None cost h none = absurd none
+
+-- the bound of an entry by a table bounds every plan from its state
+tabled : (task : Parts) (flat : IsFlat task) (e : Entry) (listed : List (ℕ × Limit)) → IsFitting task e → IsTabled task e listed → BoundsFrom task e.state e.bound
+tabled task flat e listed fits is numbers leads =
+    below_entry e.bound (reach (entry_in as_entry listed) task.goal) (cost_sum task numbers) is.bounded
+    (tables_bound_plans task e.state (entry_in as_entry listed) numbers flat fits.state is.table leads)
+
 -- ---- entries
 
 module _ (task : Parts) (proofs : List Proof) (entries : List Entry) (flat : IsFlat task) (valid : All (IsValidProof task) proofs) where
@@ -91,7 +107,7 @@ module _ (task : Parts) (proofs : List Proof) (entries : List Entry) (flat : IsF
   supported e s same fits why.Expanded (inl zero) = inl (λ numbers leads. from_zero e.bound (cost_sum task numbers) zero)
   supported e s same fits why.Expanded (inr h) = inr (leans e s same h)
   supported e s same fits (why.Proof number) h = inl (subst (λ t. BoundsFrom task t e.bound) same (proved task flat e fits proofs number valid h))
-  supported e s same fits (why.Table numbers) h = absurd h
+  supported e s same fits (why.Table listed) h = inl (subst (λ t. BoundsFrom task t e.bound) same (tabled task flat e listed fits h))
 
   -- so does the bound of a state, where entries are justified
   bound_is : (es : List Entry) (s : FlatState) → All (IsJustified task proofs entries) es → BoundsFrom task s (bound_at es s) ⊎ LeansOn s (bound_at es s)

@@ -8,3 +8,4 @@ mod StepNumbers
 mod PlanRuns
 mod OnePlanEnd
 pub mod Filing
+pub mod Listed

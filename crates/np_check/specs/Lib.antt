@@ -3,6 +3,7 @@ pub mod Bounds
 pub mod Laws
 pub mod First
 pub mod Steps
+pub mod Listed
 pub mod PlanEnds
 pub mod Walks
 pub mod Watched

@@ -120,7 +120,7 @@ fn fault_at(
     Ok(None)
 }
 
-/// Whether an entry is justified. None is by a table, until tables are built.
+/// Whether an entry is justified.
 fn is_justified(
     alloc: Global,
     flat: &Watched<'_>,
@@ -136,10 +136,12 @@ fn is_justified(
     if !is_fitting(flat.task().parts(), entry) {
         return Ok(false);
     }
-    match entry.why {
+    match &entry.why {
         Why::Expanded => is_by_expansion(alloc, flat, first, entry, scratch),
-        Why::Proof(number) => Ok(is_proved(flat.task(), certificate, entry, number)),
-        Why::Table(_) => Ok(false),
+        Why::Proof(number) => Ok(is_proved(flat.task(), certificate, entry, *number)),
+        Why::Table(listed) => scratch
+            .tables
+            .is_tabled(flat.task(), entry, listed.as_slice()),
     }
 }
 

@@ -12,6 +12,7 @@ mod numbers;
 mod plan;
 mod plan_end;
 mod scratch;
+mod tables;
 mod verdict;
 mod walk;
 mod watched;

@@ -1,5 +1,6 @@
 //! What is used again from step to step.
 
+use crate::tables::Tables;
 use np_flat::FlatState;
 use sqlite_items::Items;
 use std::alloc::{AllocError, Global};
@@ -10,6 +11,8 @@ use std::alloc::{AllocError, Global};
 pub struct Scratch {
     /// The state that the last step led to.
     pub after: FlatState,
+    /// For tables.
+    pub tables: Tables,
     // By step, 1 more than the number of the entry that it last led to. Where entries are in the order of a search, the same
     // step from the next entry mostly leads there.
     guesses: Vec<usize>,
@@ -23,6 +26,7 @@ impl Scratch {
                 facts: Items::new(alloc),
                 values: Items::new(alloc),
             },
+            tables: Tables::new(alloc),
             guesses: vec![in alloc; 0; steps]?,
         })
     }

@@ -25,7 +25,7 @@ use Rattle.np_cert.specs.Text.{IsWritten}
 use Rattle.np_cert.specs.Text as certificate_text
 use Rattle.np_answers.specs.declared.answer.File.TheVariants as file
 use Rattle.np_answers.specs.declared.answer.refusal.Refusal.{Refusal}
-use Rattle.np_answers.specs.declared.answer.refusal.Refusal.TheVariants.{TooLong, Syntax, NumberWide, StampOrder, UnknownStep, CertificateNotBuilt}
+use Rattle.np_answers.specs.declared.answer.refusal.Refusal.TheVariants.{TooLong, Syntax, NumberWide, StampOrder, UnknownStep}
 use Rattle.np_commands.specs.FlatTasks.{bind_refusal, scale_refusal, IsUnbound, IsUnscaled, IsTaskReason}
 use Rattle.np_commands.specs.Checking.{SpellNone, IsCertificateReason}
 use Rattle.np_commands.specs.Plans.{IsPlanReason}
@@ -72,14 +72,10 @@ module _ (bytes : List ℕ) where
   beside_place : (p : Place) → SpellNone bytes p → (s : Refusal) → IsCertificateReason bytes s → Syntax file.Certificate p ≡ s
   beside_place p a (Syntax file.Certificate q) b =
       ap (Syntax file.Certificate) (one_first IsWritten certificate_text.certificate (items_of bytes) p q a.first_fault b.first_fault)
-  beside_place p a CertificateNotBuilt b = absurd (a.none b.certificate b.spelled)
   beside_place p a s b = absurd b
 
   certificate_reason : (r s : Refusal) → IsCertificateReason bytes r → IsCertificateReason bytes s → r ≡ s
   certificate_reason (Syntax file.Certificate p) s a b = beside_place p a s b
-  certificate_reason CertificateNotBuilt (Syntax file.Certificate q) a b = absurd (b.none a.certificate a.spelled)
-  certificate_reason CertificateNotBuilt CertificateNotBuilt a b = refl
-  certificate_reason CertificateNotBuilt s a b = absurd b
   certificate_reason r s a b = absurd a
 
 pub one_certificate_reason : OneCertificateReason

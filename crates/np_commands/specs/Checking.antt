@@ -1,5 +1,5 @@
 -- What `check` says of a task, of a certificate, and of a plan.
-use Rattle.std.specs.Prelude.{◌≡◌, ℕ, ⊤, pos, true, false, List}
+use Rattle.std.specs.Prelude.{◌≡◌, ℕ, ⊤, pos, List}
 use Rattle.np_lex.specs.declared.token.Place.{Place}
 use Rattle.np_lex.specs.Tokens.{items_of}
 use Rattle.np_read.specs.Faults.{IsFirstFault}
@@ -16,7 +16,7 @@ use Rattle.np_run.specs.RunAnswers.{IsAnswer}
 use Rattle.np_cert.specs.declared.certificate.Limit.{Limit}
 use Rattle.np_cert.specs.declared.certificate.Limit.TheVariants.{Number, Absent}
 use Rattle.np_cert.specs.declared.certificate.Certificate.{Certificate}
-use Rattle.np_cert.specs.Text.{IsWritten, Spells, has_table}
+use Rattle.np_cert.specs.Text.{IsWritten, Spells}
 use Rattle.np_cert.specs.Text as certificate_text
 use Rattle.np_cert.specs.Valid.{IsValid}
 use Rattle.np_check.specs.declared.verdict.Verdict.TheVariants.{BadProof, TwiceEntry, BadEntry, BadClaim}
@@ -26,7 +26,7 @@ use Rattle.np_check.specs.declared.plan_end.PlanEnd.TheVariants as plan
 use Rattle.np_check.specs.PlanEnds.{IsPlanEnd}
 use Rattle.np_answers.specs.declared.answer.File.TheVariants as file
 use Rattle.np_answers.specs.declared.answer.refusal.Refusal.{Refusal}
-use Rattle.np_answers.specs.declared.answer.refusal.Refusal.TheVariants.{Syntax, CertificateNotBuilt}
+use Rattle.np_answers.specs.declared.answer.refusal.Refusal.TheVariants.{Syntax}
 use Rattle.np_answers.specs.declared.answer.check.CheckAnswer.{CheckAnswer}
 use Rattle.np_answers.specs.declared.answer.check.CheckAnswer.TheVariants.{Yes, YesPlan, No}
 use Rattle.np_answers.specs.declared.answer.check.Fault.{Fault}
@@ -36,29 +36,17 @@ use Rattle.np_answers.specs.declared.answer.Answer.TheVariants.{Refused, Checked
 
 -- ---- the bytes of a certificate
 
--- the bytes spell a certificate in which no reason is a table; these are judged
-pub record SpellsJudged (bytes : List ℕ) (c : Certificate) : Type 0 where
-  pub spelled : Spells bytes c
-  pub no_table : has_table c ≡ false
-
 -- the bytes spell no certificate, and this is the place of their first fault
 pub record SpellNone (bytes : List ℕ) (place : Place) : Type 0 where
   pub none : (c : Certificate) → Spells bytes c → ⊥
   pub first_fault : IsFirstFault IsWritten certificate_text.certificate (items_of bytes) place
 
--- the bytes spell a certificate in which some reason is a table
-pub record SpellTable (bytes : List ℕ) : Type 0 where
-  pub certificate : Certificate
-  pub spelled : Spells bytes certificate
-  pub table : has_table certificate ≡ true
-
--- why the bytes of a certificate aren't judged; they are never too many
+-- why bytes are refused as a certificate; they are never too many
 abbrev pub IsCertificateReason : List ℕ → Refusal → Type 0
 IsCertificateReason bytes (Syntax file.Certificate place) = SpellNone bytes place
-IsCertificateReason bytes CertificateNotBuilt = SpellTable bytes
 IsCertificateReason bytes refusal = ⊥
 
--- an answer where the bytes of a certificate aren't judged
+-- an answer where bytes spell no certificate
 abbrev pub IsNoCertificate : List ℕ → Answer → Type 0
 IsNoCertificate bytes (Refused refusal) = IsCertificateReason bytes refusal
 IsNoCertificate bytes OutOfMemory = ⊤

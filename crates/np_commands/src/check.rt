@@ -1,11 +1,12 @@
 //! The command `check`.
 ghost use Rattle.std.specs.Prelude.{◌≡◌, ◌≢◌, ◌≤◌, ◌^◌, length, IfOk, IfErr};
 ghost use Rattle.np_cert.specs.declared.certificate.Limit.TheVariants.{Absent};
+ghost use Rattle.np_cert.specs.Text.{Spells};
 ghost use Rattle.np_cert.specs.Valid.{IsValid};
 ghost use Rattle.np_check.specs.Bounds.{Bounds};
 ghost use Rattle.np_answers.specs.declared.answer.check.CheckAnswer.TheVariants as check_answer;
 ghost use Rattle.np_answers.specs.declared.answer.Answer.TheVariants as answer;
-ghost use Rattle.np_commands.specs.Checking.{SpellsJudged, IsNoCertificate, IsJudgedAlone, IsJudgedBeside};
+ghost use Rattle.np_commands.specs.Checking.{IsNoCertificate, IsJudgedAlone, IsJudgedBeside};
 ghost use Rattle.np_commands.specs.Steps.{IsFaultTold, IsCompared, IsPriced};
 
 use np_answers::{Answer, CheckAnswer, Fault, File, Refusal};
@@ -15,16 +16,12 @@ use np_flat::Flat;
 use np_model::Step;
 use std::alloc::Global;
 
-/// The certificate that bytes spell; where they spell none, or one that gives a table as a reason, or memory ran out, the answer
-/// that says so.
+/// The certificate that bytes spell; where they spell none, or memory ran out, the answer that says so.
 pub fn certificate_of(alloc: Global, bytes: &[u8]) -> Result<Certificate, Answer>
-    ensures spelled { IfOk result (SpellsJudged bytes.now) }
+    ensures spelled { IfOk result (Spells bytes.now) }
     ensures refused { IfErr result (IsNoCertificate bytes.now) }
 {
     match read_certificate(alloc, bytes) {
-        Ok(certificate) if certificate.has_table() => {
-            Err(Answer::Refused(Refusal::CertificateNotBuilt))
-        }
         Ok(certificate) => Ok(certificate),
         Err(CertFault::At(place)) => Err(Answer::Refused(Refusal::Syntax(
             File::Certificate,

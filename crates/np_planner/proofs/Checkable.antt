@@ -1,7 +1,6 @@
 -- That `check` says yes to the certificate that `solve` puts, also with the plan.
 use Rattle.std.proofs.Common.{◌≡◌, ℕ, Bool, true, false, true≢false, List, Option, Some, None, refl, sym, ap, ◌∙◌, subst}
 use Rattle.std.proofs.lemmas.Option.{same_Some}
-use Rattle.np_cert.proofs.Thin.{thin_has_no_table}
 use Rattle.np_io.specs.Seen.{SeenShelf}
 use Rattle.np_syntax.specs.declared.domain.Domain.{Domain}
 use Rattle.np_problem.specs.declared.problem.Problem.{Problem}
@@ -102,7 +101,7 @@ module _ (command : Solve) (names : AreApart command) (answer : SolveAnswer) (ol
     written = record {
       bytes = was.certificate;
       held = subst (λ (x : Option Files). IsHeld x command.certificate was.certificate) (sym told) keeps.there;
-      of_bytes = record { spelled = was.certified.by.spelled; no_table = thin_has_no_table was.certified.certificate was.certified.by.thin };
+      of_bytes = was.certified.by.spelled;
     };
     valid = was.certified.by.valid;
     claim_is = was.certified.by.claim_is;

@@ -9,7 +9,8 @@ use Rattle.np_cert.specs.declared.certificate.Certificate.{Certificate}
 use Rattle.np_answers.specs.declared.answer.File.TheVariants as file
 use Rattle.np_answers.specs.declared.answer.Answer.{Answer}
 use Rattle.np_answers.specs.declared.answer.Answer.TheVariants.{CannotRead, Refused, OutOfMemory}
-use Rattle.np_commands.specs.Checking.{SpellsJudged, IsNoCertificate}
+use Rattle.np_cert.specs.Text.{Spells}
+use Rattle.np_commands.specs.Checking.{IsNoCertificate}
 use Rattle.np_commands.specs.Plans.{SpellsPlan, IsNoPlan}
 use Rattle.np_planner.specs.ReadSteps.{IsNotFetched}
 use Rattle.np_planner.specs.GivenFiles.{IsWithoutCertificate, IsWithoutPlan}
@@ -33,7 +34,7 @@ module _ (name : List ℕ) (old new : SeenShelf) where
     no_certificate OutOfMemory is = same
     no_certificate answer is = absurd is
 
-    pub certificate_found : (r : Result Certificate Answer) → IfOk r (SpellsJudged bytes) → IfErr r (IsNoCertificate bytes) → FindsCertificate name old new r
+    pub certificate_found : (r : Result Certificate Answer) → IfOk r (Spells bytes) → IfErr r (IsNoCertificate bytes) → FindsCertificate name old new r
     certificate_found (Ok c) is none = (same, record { bytes = bytes; held = held; of_bytes = is })
     certificate_found (Err answer) is none = no_certificate answer none
 

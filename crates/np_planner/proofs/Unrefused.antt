@@ -1,6 +1,6 @@
 -- That files which stand for a task, for its flat task, or hold a certificate or a plan aren't refused, where the shelf tells what it holds and no
 -- read fails.
-use Rattle.std.proofs.Common.{◌≡◌, ℕ, ◌<◌, ◌≤◌, ◌^◌, true≢false, inl, inr, List, [], length, Option, Some, Result, Ok, Err, refl, sym, ap, ◌∙◌, subst, arith}
+use Rattle.std.proofs.Common.{◌≡◌, ℕ, ◌<◌, ◌≤◌, ◌^◌, inl, inr, List, [], length, Option, Some, Result, Ok, Err, refl, sym, ap, ◌∙◌, subst, arith}
 use Rattle.std.proofs.lemmas.Option.{same_Some, none-some}
 use Rattle.np_io.specs.Seen.{SeenShelf}
 use Rattle.np_io.specs.Files.{Files, IsHeld, IsLonger}
@@ -24,12 +24,12 @@ use Rattle.np_bind.specs.Binding.{bind_task}
 use Rattle.np_flat.specs.declared.parts.Parts.{Parts}
 use Rattle.np_scale.specs.Scaling.{scale_task, IsFlatTaskOf}
 use Rattle.np_cert.specs.declared.certificate.Certificate.{Certificate}
-use Rattle.np_cert.specs.Text.{Spells, has_table}
+use Rattle.np_cert.specs.Text.{Spells}
 use Rattle.np_cert.proofs.ReadingTexts.{one_certificate}
 use Rattle.np_answers.specs.declared.answer.File.{File}
 use Rattle.np_answers.specs.declared.answer.File.TheVariants as file
 use Rattle.np_answers.specs.declared.answer.refusal.Refusal.{Refusal}
-use Rattle.np_answers.specs.declared.answer.refusal.Refusal.TheVariants.{TooLong, Syntax, NumberWide, Typing, StampOrder, UnknownStep, CertificateNotBuilt}
+use Rattle.np_answers.specs.declared.answer.refusal.Refusal.TheVariants.{TooLong, Syntax, NumberWide, Typing, StampOrder, UnknownStep}
 use Rattle.np_answers.specs.declared.answer.Answer.{Answer}
 use Rattle.np_answers.specs.declared.answer.Answer.TheVariants.{CannotRead, Refused, OutOfMemory}
 use Rattle.np_answers.specs.Words.{Inputs}
@@ -178,15 +178,12 @@ module _ (shelf : SeenShelf) (f : Files) (told : shelf.files ≡ Some f) where
   module _ (name : List ℕ) (c : Certificate) (written : HoldsCertificate name shelf c) where
     pub same_certificate : (other : Certificate) → HoldsCertificate name shelf other → other ≡ c
     same_certificate other also =
-        one_certificate written.bytes other c (subst (λ (b : List ℕ). Spells b other) (one_content name also.bytes written.bytes also.held written.held) also.of_bytes.spelled) written.of_bytes.spelled
+        one_certificate written.bytes other c (subst (λ (b : List ℕ). Spells b other) (one_content name also.bytes written.bytes also.held written.held) also.of_bytes) written.of_bytes
 
     -- nothing in its bytes is a reason to refuse it
     pub not_refused : (bytes : List ℕ) → IsHeld shelf.files name bytes → (refusal : Refusal) → IsCertificateReason bytes refusal → ⊥
     not_refused bytes held (Syntax file.Certificate place) is =
-        is.none c (subst (λ (b : List ℕ). Spells b c) (one_content name written.bytes bytes written.held held) written.of_bytes.spelled)
-    not_refused bytes held CertificateNotBuilt is =
-        let here = subst (λ (b : List ℕ). Spells b c) (one_content name written.bytes bytes written.held held) written.of_bytes.spelled in
-        true≢false (sym is.table ∙ ap has_table (one_certificate bytes is.certificate c is.spelled here) ∙ written.of_bytes.no_table)
+        is.none c (subst (λ (b : List ℕ). Spells b c) (one_content name written.bytes bytes written.held held) written.of_bytes)
     not_refused bytes held refusal is = absurd is
 
     pub certificate_there : (new : SeenShelf) → (Rose (shelf.read_faults name) (new.read_faults name) → ⊥) → (answer : Answer) → IsWithoutCertificate name shelf new answer → status_of answer ≡ 7

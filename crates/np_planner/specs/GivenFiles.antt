@@ -7,17 +7,18 @@ use Rattle.np_cert.specs.declared.certificate.Certificate.{Certificate}
 use Rattle.np_answers.specs.declared.answer.File.TheVariants as file
 use Rattle.np_answers.specs.declared.answer.Answer.{Answer}
 use Rattle.np_answers.specs.declared.answer.Answer.TheVariants.{CannotRead, Refused, OutOfMemory}
-use Rattle.np_commands.specs.Checking.{SpellsJudged, IsCertificateReason}
+use Rattle.np_cert.specs.Text.{Spells}
+use Rattle.np_commands.specs.Checking.{IsCertificateReason}
 use Rattle.np_commands.specs.Plans.{SpellsPlan, IsPlanReason}
 use Rattle.np_planner.specs.Shelves.{HoldsBytesFor, ReadFailed}
 
 -- ---- the certificate
 
--- the bytes under the name, where they are told, spell this certificate, in which no reason is a table
+-- the bytes under the name, where they are told, spell this certificate
 abbrev pub HoldsCertificate : List ℕ → SeenShelf → Certificate → Type 0
-HoldsCertificate name shelf c = HoldsBytesFor name shelf (λ bytes. SpellsJudged bytes c)
+HoldsCertificate name shelf c = HoldsBytesFor name shelf (λ bytes. Spells bytes c)
 
--- an answer where the certificate can't be read, or isn't one that is judged so far
+-- an answer where the certificate can't be read, or its bytes spell none
 abbrev pub IsWithoutCertificate : List ℕ → SeenShelf → SeenShelf → Answer → Type 0
 IsWithoutCertificate name old new (CannotRead f) = (f ≡ file.Certificate) × ReadFailed name old new
 IsWithoutCertificate name old new (Refused refusal) = (new ≡ old) × HoldsBytesFor name old (λ bytes. IsCertificateReason bytes refusal)

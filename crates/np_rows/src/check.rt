@@ -2,8 +2,6 @@
 use crate::trial::{NONE_BELOW_THREE, RISE, SINK, STEPS, THREE, expect_check, shelf};
 use std::process::Abort;
 
-const NOT_BUILT: &str = "Refused: not built yet\n";
-
 const ABOVE: &str = "No: the claim is above the start's bound\n";
 
 const FIRST: &str = "No: entry 0 is not justified\n";
@@ -140,8 +138,8 @@ const ROWS: &[(&str, &str, u8)] = &[
     ),
     (
         "(certificate 1 (claim 0) (proofs) (entries (entry (facts) (values 0) 0 (table))))",
-        NOT_BUILT,
-        3,
+        "Yes: no plan costs less than 0\n",
+        0,
     ),
     (
         "(certificate 1 (claim 0) (proofs) (entries (entry (facts) (values 0) 0 (proof 0))))",

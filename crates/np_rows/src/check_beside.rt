@@ -54,8 +54,6 @@ const NO_GOAL: Said<'static> = ("No: the goal does not hold at the end\n", 6);
 
 const UNAPPLICABLE: Said<'static> = ("No: step 1 is not applicable\n", 6);
 
-const NOT_BUILT: Said<'static> = ("Refused: not built yet\n", 3);
-
 const UNREAD: Said<'static> = ("Refused: certificate 9:39 syntax\n", 3);
 
 const LAST: &str = "(values 1) 2 expanded)";
@@ -113,8 +111,14 @@ const CHANGED: &[(&str, &str, Said<'static>, Said<'static>)] = &[
     (
         "(values 0) 6 expanded",
         "(values 0) 3 (table (1 3))",
-        NOT_BUILT,
-        NOT_BUILT,
+        ABOVE,
+        ABOVE,
+    ),
+    (
+        "(values 0) 6 expanded",
+        "(values 0) 6 (table (1 3))",
+        FIRST,
+        FIRST,
     ),
 ];
 
@@ -139,8 +143,14 @@ const CHANGED_PROOFS: &[(&str, &str, Said<'static>, Said<'static>)] = &[
     (
         "(values 6) 2 (proof 0)",
         "(values 6) 2 (table (2 2))",
-        NOT_BUILT,
-        NOT_BUILT,
+        SIX,
+        CHEAPEST,
+    ),
+    (
+        "(values 6) 2 (proof 0)",
+        "(values 6) 2 (table (2 3))",
+        THIRD,
+        THIRD,
     ),
     (
         "(values 1) 2 (proof 1))",
@@ -299,6 +309,16 @@ const IN_TWO: &str =
 const NONE: &str =
     "(certificate 1 (claim none) (proofs) (entries (entry (facts) (values) none expanded)))";
 
+/// A tool, fact and subgoal 0, is fetched for 7, and then each piece costs 1. The goal, subgoal 1, is x - 2.
+const TOOL: &str = "(:predicates (tool)) (:functions (x) (c))
+ (:action piece :precondition (tool) :effect (and (increase (x) 1) (increase (c) 1)))
+ (:action fetch :effect (and (tool) (increase (c) 7)))";
+
+const PIECES: &str = "(:init (= (x) 0)) (:goal (>= (x) 2)) (:metric minimize (c))";
+
+const NUMBERS: &str =
+    "(certificate 1 (claim 9) (proofs) (entries (entry (facts) (values 0) 9 (table (0 7) (1 9)))))";
+
 /// Sections, certificates and plans, with what is said.
 const SECTIONS: &[(&str, &str, &str, &str, Said<'static>)] = &[
     (
@@ -340,6 +360,29 @@ const SECTIONS: &[(&str, &str, &str, &str, Said<'static>)] = &[
     ),
     (MISSING, "(:goal (p))", NONE, "", NO_GOAL),
     (MISSING, "(:goal (p))", NONE, "(a)", UNAPPLICABLE),
+    (
+        TOOL,
+        PIECES,
+        NUMBERS,
+        "(fetch) (piece) (piece)",
+        ("Yes: the plan costs 9 and no plan costs less\n", 0),
+    ),
+    (
+        TOOL,
+        PIECES,
+        NUMBERS,
+        "(fetch) (piece) (piece) (piece)",
+        ("No: the plan costs 10 and the claim is 9\n", 6),
+    ),
+    (TOOL, PIECES, NUMBERS, "(piece)", UNAPPLICABLE),
+    (TOOL, PIECES, NUMBERS, "(fetch) (piece)", NO_GOAL),
+    (
+        TOOL,
+        PIECES,
+        "(certificate 1 (claim 9) (proofs) (entries (entry (facts) (values 0) 9 (table (0 8) (1 9)))))",
+        "(fetch) (piece) (piece)",
+        FIRST,
+    ),
 ];
 
 #[test]

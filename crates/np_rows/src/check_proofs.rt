@@ -1,6 +1,6 @@
 //! Answers of `check` to certificates with counting proofs, worked by hand.
 use crate::pairs::{COUNTER, FOUR};
-use crate::trial::{expect_check, pair_of, shelf};
+use crate::trial::{expect_verdict, pair_of};
 use std::process::Abort;
 
 /// What is said, and the status.
@@ -277,20 +277,6 @@ const SECTIONS: &[(&str, &str, &str, Said<'static>)] = &[
         FIRST,
     ),
 ];
-
-/// Checks a certificate for a pair.
-fn expect_verdict(
-    rt: &(impl Abort + AllocGlobal),
-    pair: (&str, &str),
-    certificate: &str,
-    said: Said<'_>,
-) {
-    let mut shelf = shelf(rt, pair.0.as_bytes(), pair.1.as_bytes());
-    shelf
-        .set("cert", certificate.as_bytes())
-        .expect(rt, "memory");
-    expect_check(rt, &mut shelf, said.0, said.1);
-}
 
 #[test]
 fn floors_are_judged(rt: HostRuntime) {

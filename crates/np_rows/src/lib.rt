@@ -8,6 +8,8 @@ mod check_beside;
 #[cfg(test)]
 mod check_proofs;
 #[cfg(test)]
+mod check_tables;
+#[cfg(test)]
 mod command_line;
 #[cfg(test)]
 mod faults;

@@ -28,7 +28,7 @@ const VALID: &str = "(certificate 1 (claim 0) (proofs) (entries))";
 /// A claim that no entry bears out.
 const CLAIM: &str = "(certificate 1 (claim 1) (proofs) (entries))";
 
-/// A reason that isn't built.
+/// A bound that its table doesn't support.
 const TABLE: &str =
     "(certificate 1 (claim 1) (proofs) (entries (entry (facts) (values 0) 1 (table))))";
 
@@ -246,24 +246,6 @@ const ROWS: &[Row<'static>] = &[
         3,
         3,
     ),
-    (
-        Some(COUNTER),
-        Some(FOUR),
-        Some(TABLE),
-        None,
-        "Refused: not built yet\n",
-        3,
-        3,
-    ),
-    (
-        Some(COUNTER),
-        Some(FOUR),
-        Some(TABLE),
-        Some("("),
-        "Refused: not built yet\n",
-        3,
-        3,
-    ),
     // The plan's text comes before a fault of the certificate is told.
     (
         Some(COUNTER),
@@ -292,7 +274,34 @@ const ROWS: &[Row<'static>] = &[
         3,
         4,
     ),
+    (
+        Some(COUNTER),
+        Some(FOUR),
+        Some(TABLE),
+        None,
+        "Refused: cannot read plan\n",
+        4,
+        4,
+    ),
+    (
+        Some(COUNTER),
+        Some(FOUR),
+        Some(TABLE),
+        Some("("),
+        "Refused: plan 1:2 syntax\n",
+        3,
+        4,
+    ),
     // A fault of the certificate comes before one of the steps.
+    (
+        Some(COUNTER),
+        Some(FOUR),
+        Some(TABLE),
+        Some("(dec)"),
+        "No: entry 0 is not justified\n",
+        6,
+        4,
+    ),
     (
         Some(COUNTER),
         Some(FOUR),

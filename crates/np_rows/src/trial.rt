@@ -137,6 +137,20 @@ pub fn expect_check(
     );
 }
 
+/// Checks a certificate for a pair, and compares its status and what it pushed.
+pub fn expect_verdict(
+    rt: &(impl Abort + AllocGlobal),
+    pair: (&str, &str),
+    certificate: &str,
+    said: (&str, u8),
+) {
+    let mut shelf = shelf(rt, pair.0.as_bytes(), pair.1.as_bytes());
+    shelf
+        .set("cert", certificate.as_bytes())
+        .expect(rt, "memory");
+    expect_check(rt, &mut shelf, said.0, said.1);
+}
+
 /// Checks what is under `cert` beside what is under `plan`, and compares its status and what it pushed.
 pub fn expect_check_beside(
     rt: &(impl Abort + AllocGlobal),

@@ -47,15 +47,15 @@ fn prints_entries(alloc: Global) -> Result<bool, AllocError> {
     )
 }
 
-/// A certificate that is read is printed as it was, whether it has a table or not.
-fn prints_what_was_read(alloc: Global, text: &str, has_table: bool) -> Result<bool, AllocError> {
+/// A certificate that is read is printed as it was.
+fn prints_what_was_read(alloc: Global, text: &str) -> Result<bool, AllocError> {
     let Ok(certificate) = read_certificate(alloc, text.as_bytes()) else {
         return Ok(false);
     };
     let printed = print_certificate(alloc, &certificate)?;
     let mut wanted = Vec::from_slice(alloc, text.as_bytes())?;
     wanted.push(b'\n')?;
-    Ok(printed.as_slice() == wanted.as_slice() && certificate.has_table() == has_table)
+    Ok(printed.as_slice() == wanted.as_slice())
 }
 
 const THIN: &str = "(certificate 1 (claim 1)
@@ -67,7 +67,7 @@ const THIN: &str = "(certificate 1 (claim 1)
 fn prints_certificates(rt: HostRuntime) -> Result<(), Fail> {
     assert!(rt; prints_nothing(rt.alloc())?);
     assert!(rt; prints_entries(rt.alloc())?);
-    assert!(rt; prints_what_was_read(rt.alloc(), FULL, true)?);
-    assert!(rt; prints_what_was_read(rt.alloc(), THIN, false)?);
+    assert!(rt; prints_what_was_read(rt.alloc(), FULL)?);
+    assert!(rt; prints_what_was_read(rt.alloc(), THIN)?);
     Ok(())
 }

@@ -30,8 +30,6 @@ pub enum Refusal {
     Task(TaskReason),
     /// The task of the files has no flat task, for this reason at this spot.
     AtSpot(SpotReason, Text),
-    /// Some reason of the certificate is a table, and such ones aren't judged yet.
-    CertificateNotBuilt,
 }
 
 /// Why a task has no flat task.
@@ -97,7 +95,6 @@ impl Refusal {
                 let reason = spot_reason_text(reason);
                 format!(in alloc; "Refused: {}: {}\n", reason, spot.as_str())
             }
-            Refusal::CertificateNotBuilt => String::from_str(alloc, "Refused: not built yet\n"),
         }
     }
 }
