@@ -1,7 +1,6 @@
 //! Answers of `check` to certificates with counting proofs, worked by hand.
 use crate::pairs::{COUNTER, FOUR};
 use crate::trial::{expect_verdict, pair_of};
-use std::process::Abort;
 
 /// What is said, and the status.
 type Said<'a> = (&'a str, u8);

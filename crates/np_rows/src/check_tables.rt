@@ -1,7 +1,6 @@
 //! Answers of `check` to certificates with tables as reasons, worked by hand.
 use crate::pairs::{COUNTER, FOUR};
 use crate::trial::{expect_verdict, pair_of};
-use std::process::Abort;
 
 /// What is said, and the status.
 type Said<'a> = (&'a str, u8);
@@ -101,6 +100,17 @@ const COUNTED: &[(&str, &str, Said<'static>)] = &[
         "0",
         "(values 0) 0 (table (0 170141183460469231731687303715884105728))",
         ("Refused: certificate 1:82 syntax\n", 3),
+    ),
+    // What an entry lists says nothing of the next one.
+    (
+        "0",
+        "(values 0) 3 (table (1 3))) (entry (facts) (values -1) 3 (table)",
+        SECOND,
+    ),
+    (
+        "0",
+        "(values -3) 5 (table (0 3) (1 5))) (entry (facts) (values 1) 2 (table (1 2))",
+        NOTHING,
     ),
     // The state and the bound are such as every entry has.
     ("0", "(values) 0 (table)", FIRST),

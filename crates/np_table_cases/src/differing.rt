@@ -12,7 +12,7 @@ use np_table::Judge;
 use std::process::Abort;
 
 /// The flat task of a random pair; None where it is refused.
-fn random_flat(rt: &(impl Abort + AllocGlobal), seed: u64) -> Option<Flat> {
+pub fn random_flat(rt: &(impl Abort + AllocGlobal), seed: u64) -> Option<Flat> {
     let mut random = Random { seed };
     let domain = random.domain(rt);
     let problem = random.problem(rt);

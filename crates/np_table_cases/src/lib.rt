@@ -1,5 +1,5 @@
-//! Reachable subgoals, cost tables and cuts of small flat tasks: some worked by hand, and random ones beside the definitions in plain loops
-//! and beside every list of up to four steps. There is nothing here but tests.
+//! Reachable subgoals, cost tables and cuts of small flat tasks, and verdicts on certificates by tables: some worked by hand, and random ones
+//! beside the definitions in plain loops and beside every list of up to four steps. There is nothing here but tests.
 #![tactic(auto)]
 
 #[cfg(test)]
@@ -16,5 +16,7 @@ mod random;
 mod slow;
 #[cfg(test)]
 mod texts;
+#[cfg(test)]
+mod verdicts;
 #[cfg(test)]
 mod worked;

@@ -121,4 +121,15 @@ impl Random {
         }
         changed
     }
+
+    /// The entry, or one that is mostly near it.
+    pub fn near(&mut self, entry: Option<u64>) -> Option<u64> {
+        match (self.below(8), entry) {
+            (0, _) => None,
+            (1, _) => Some(self.below(6) as u64),
+            (2, Some(n)) => Some(n.saturating_add(1)),
+            (3, Some(n)) => Some(n.saturating_sub(1)),
+            _ => entry,
+        }
+    }
 }

@@ -218,7 +218,7 @@ pub fn greatest(
 }
 
 /// Whether an entry is at most another; none is above all numbers.
-fn is_at_most(entry: Option<u64>, other: Option<u64>) -> bool {
+pub fn is_at_most(entry: Option<u64>, other: Option<u64>) -> bool {
     match (entry, other) {
         (_, None) => true,
         (None, Some(_)) => false,
